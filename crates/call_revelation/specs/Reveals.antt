@@ -8,7 +8,7 @@ use Rattle.jvm_model.specs.declared.program.MethodPlace.{MethodPlace}
 use Rattle.jvm_model.specs.declared.program.Program.{Program}
 use Rattle.jvm_model.specs.Basis.KindNumbers.{user_count}
 use Rattle.jvm_model.specs.Classes.Load.{is_among}
-use Rattle.jvm_model.specs.Profiling.Points.{is_target}
+use Rattle.jvm_model.specs.Profiling.Points.{has_class, is_target}
 use Rattle.jvm_model.specs.Basis.Programs.{place_of_method}
 use Rattle.jvm_model.specs.Profiling.Revealed.{Revealed, mark_of}
 use Rattle.jvm_model.specs.Profiling.Revelation.{IsLoadOrder}
@@ -54,26 +54,23 @@ AreOwned p own = (m : ℕ) (place : MethodPlace) → place_of_method p m ≡ Som
 abbrev pub mark_by : Bool → Bool → Bool → Mark
 mark_by loaded selected target = if loaded then (if selected then Root else if target then Plain else Off) else Off
 
-abbrev pub is_placed : List MethodPlace → List ℕ → ℕ → Bool
-is_placed methods loaded m = option_map_or (λ (place : MethodPlace). is_among place.class loaded) (slice_get methods m) false
-
-abbrev pub mark_kept : Reveal → ℕ → Mark
-mark_kept r m = mark_by (is_placed r.methods r.lineage.loaded m) (is_among m r.selected) (is_among m r.targets)
+abbrev pub mark_kept : Program → Reveal → ℕ → Mark
+mark_kept p r m = mark_by (has_class p r.lineage.loaded m) (is_among m r.selected) (is_among m r.targets)
 
 -- the class of a method that has another mark than the one that was shown
-abbrev pub class_changed : Reveal → ℕ → Option ℕ
-class_changed r m =
-    if same_mark (mark_at r.shown m) (mark_kept r m) then None
-    else option_map_or (λ (place : MethodPlace). Some place.class) (slice_get r.methods m) None
+abbrev pub class_changed : Program → Reveal → ℕ → Option ℕ
+class_changed p r m =
+    if same_mark (mark_at r.shown m) (mark_kept p r m) then None
+    else option_map_or (λ (place : MethodPlace). Some place.class) (place_of_method p m) None
 
 -- its place in load order, where it is loaded
-abbrev pub rank_changed : Reveal → ℕ → Option ℕ
-rank_changed r m = option_and_then (λ class. rank_of class r.lineage.loaded) (class_changed r m)
+abbrev pub rank_changed : Program → Reveal → ℕ → Option ℕ
+rank_changed p r m = option_and_then (λ class. rank_of class r.lineage.loaded) (class_changed p r m)
 
 -- with the marks of these methods
-abbrev pub with_marks : Reveal → List ℕ → List Mark → List Mark
-with_marks r [] shown = shown
-with_marks r (m ∷ rest) shown = with_marks r rest (slice_set shown m (mark_kept r m))
+abbrev pub with_marks : Program → Reveal → List ℕ → List Mark → List Mark
+with_marks p r [] shown = shown
+with_marks p r (m ∷ rest) shown = with_marks p r rest (slice_set shown m (mark_kept p r m))
 
 -- ---- what holds of it
 
@@ -82,7 +79,6 @@ with_marks r (m ∷ rest) shown = with_marks r rest (slice_set shown m (mark_kep
 pub record IsKept (p : Program) (r : Reveal) : Type 0 where
   pub fit : IsFit p
   pub short : AllByRecursion HasShortCodes p.classes
-  pub methods : r.methods ≡ p.methods
   pub numbers : AreNumbers p r.numbers
   pub own : AreOwned p r.own.items
   pub lineage : IsLineage p r.lineage

@@ -3,7 +3,6 @@
 ghost use Rattle.std.specs.Prelude.{◌≡◌, ◌<◌, ◌^◌, [], false, length, not, replicate, IfOk};
 ghost use Rattle.std.specs.List.{AllByRecursion};
 ghost use Rattle.jvm_model.specs.declared.event.Mark.TheVariants.{Off};
-ghost use Rattle.jvm_model.specs.declared.program.Program.{Program};
 ghost use Rattle.jvm_model.specs.Classes.Load.{is_among};
 ghost use Rattle.jvm_model.specs.Profiling.Points.{is_empty};
 ghost use Rattle.jvm_model.specs.Basis.Programs.{methods_numbered};
@@ -25,12 +24,12 @@ use member_selection::MethodNumbers;
 use possible_callees::{Lineage, add_item, items_repeated, no_lists};
 use std::alloc::Global;
 
-/// What is selected, entered and loaded, with what each event needs of it: where methods stand and the methods of each class; the
-/// classes below each; the code that was read, and the classes that its calls name; which methods are entered, by a flag; the targets of what is entered; and the marks
-/// that were shown last, with the methods whose mark may be another one now.
+/// What is selected, entered and loaded, with what each event needs of it: the numbers of methods, and the methods of
+/// each class; the classes below each; the code that was read, and the classes that its calls name; which methods are
+/// entered, by a flag; the targets of what is entered; and the marks that were shown last, with the methods whose mark
+/// may be another one now. The class of a method is asked of the program.
 #[derive(Drop)]
 pub struct Reveal {
-    pub methods: Seq<MethodPlace>,
     pub numbers: MethodNumbers,
     pub own: Vec<Seq<u32>>,
     pub lineage: Lineage,
@@ -83,7 +82,6 @@ impl Reveal {
     {
         let places = program.methods.as_slice();
         let classes = program.classes.len();
-        let methods = Seq::from_slice(alloc, places)?;
         let numbers = MethodNumbers::new(alloc, program)?;
         let own = methods_by_class(alloc, places, classes)?;
         let lineage = Lineage::new(alloc, classes)?;
@@ -93,7 +91,6 @@ impl Reveal {
         let flags = items_repeated(alloc, false, places.len())?;
         let shown = items_repeated(alloc, Mark::Off, places.len())?;
         Ok(Reveal {
-            methods,
             numbers,
             own,
             lineage,
@@ -133,10 +130,10 @@ impl Reveal {
     }
 
     /// The mark of a method, by what is kept.
-    pub fn mark_kept(&self, method: u32) -> Mark
-        ensures { result ≡ mark_kept self.now method }
+    pub fn mark_kept(&self, program: &Program, method: u32) -> Mark
+        ensures { result ≡ mark_kept program.now self.now method }
     {
-        let Some(place) = self.methods.at(method as usize) else {
+        let Some(place) = program.methods.at(method as usize) else {
             return Mark::Off;
         };
         if !self.lineage.loaded.has(place.class) {
@@ -153,10 +150,10 @@ impl Reveal {
     }
 
     /// The mark that a method has now.
-    pub fn mark(&self, method: u32) -> Mark
-        ensures { (p : Program) → IsRevelation p self.now →
-            result ≡ mark_of p (now_of self.now) method }
+    pub fn mark(&self, program: &Program, method: u32) -> Mark
+        ensures { IsRevelation program.now self.now →
+            result ≡ mark_of program.now (now_of self.now) method }
     {
-        self.mark_kept(method)
+        self.mark_kept(program, method)
     }
 }

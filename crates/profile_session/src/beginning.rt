@@ -22,7 +22,7 @@ fn reveal_first(alloc: Global, vm: &Vm) -> Result<Reveal, NoMemory>
 {
     let mut reveal = Reveal::new(alloc, vm.program())?;
     reveal.loaded(alloc, vm.linker())?;
-    reveal.show();
+    reveal.show(vm.program());
     Ok(reveal)
 }
 

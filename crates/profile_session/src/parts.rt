@@ -46,7 +46,7 @@ impl Parts {
         ensures { MatchResult result (λ ok. Shows self.old self.new)
             (λ e. IsSameRun self.old self.new) }
     {
-        let changed = self.reveal.changed(self.alloc)?;
+        let changed = self.reveal.changed(self.alloc, self.vm.program())?;
         let classes = changed.as_slice();
         swap_all(
             self.alloc,
@@ -55,7 +55,7 @@ impl Parts {
             &mut self.swaps,
             classes,
         )?;
-        self.reveal.show();
+        self.reveal.show(self.vm.program());
         Ok(())
     }
 

@@ -126,7 +126,7 @@ impl Session {
             → result ≡ Mark.Off }
     {
         let _whole = self.broken;
-        self.parts.reveal.mark(method)
+        self.parts.reveal.mark(self.parts.vm.program(), method)
     }
 
     /// Whether the run has ended.

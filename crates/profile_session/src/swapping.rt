@@ -44,9 +44,8 @@ fn mark_at_position(reveal: &Reveal, program: &Program, class: u32, position: u1
     requires { IsRevelation program.now reveal.now }
     ensures { result ≡ mark_at_position program.now (now_of reveal.now) class position }
 {
-    let _program = program.main;
     match reveal.numbers.number(class, position) {
-        Some(method) => reveal.mark(method),
+        Some(method) => reveal.mark(program, method),
         None => Mark::Off,
     }
 }

@@ -24,10 +24,11 @@ fn marks(alloc: Global, linker: &Linker, reveal: &Reveal) -> Result<Seq<Mark>, N
     requires { IsRevelation linker.now.program reveal.now }
     ensures { IfOk result (λ ms. ms ≡ marks_of linker.now.program (now_of reveal.now)) }
 {
-    let places = linker.program().methods.as_slice();
+    let program = linker.program();
+    let places = program.methods.as_slice();
     let mut marks = Seq::new(alloc);
     for (method, _place) in places.iter().enumerate() {
-        marks.push(reveal.mark(method as u32))?;
+        marks.push(reveal.mark(program, method as u32))?;
     }
     Ok(marks)
 }
@@ -56,7 +57,7 @@ pub fn fact_told(
     follow(alloc, linker, reveal)?;
     match fact {
         Fact::Marks(_) => Ok(Some(Fact::Marks(marks(alloc, linker, reveal)?))),
-        Fact::Changed(_) => Ok(Some(Fact::Changed(reveal.changed(alloc)?))),
+        Fact::Changed(_) => Ok(Some(Fact::Changed(reveal.changed(alloc, linker.program())?))),
         Fact::Begins(method, _) => {
             if has_class(linker, *method) {
                 Ok(Some(Fact::Begins(*method, methods_begun(alloc, linker, *method)?)))

@@ -81,7 +81,7 @@ fn blank_scene(alloc: Global, program: Program) -> Result<Scene, NoMemory>
     ensures linker { IfOk result (λ s. s.linker ≡ linker_of program) }
 {
     let mut reveal = Reveal::new(alloc, &program)?;
-    reveal.show();
+    reveal.show(&program);
     let linker = Linker::new(alloc, program)?;
     Ok(Scene {
         linker,
@@ -213,6 +213,6 @@ pub fn show(alloc: Global, linker: &Linker, reveal: &mut Reveal) -> Result<(), N
     ensures { OnOk result (HasHappened Shown linker.now reveal.old linker.now reveal.new) }
 {
     follow(alloc, linker, reveal)?;
-    reveal.show();
+    reveal.show(linker.program());
     Ok(())
 }

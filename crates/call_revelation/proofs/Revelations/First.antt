@@ -104,7 +104,6 @@ unmarked p m = by (place_of_method p m)
     by (Some place) = refl
 
 pub record IsEmpty (p : Program) (r : Reveal) : Type 0 where
-  pub methods : r.methods ≡ p.methods
   pub own : r.own.items ≡ owned_from 0 p.methods (replicate (length p.classes) [])
   pub loaded : r.lineage.loaded ≡ []
   pub selected : r.selected ≡ []
@@ -119,7 +118,6 @@ first-revelation p r is fit short numbers lineage book named empty = record {
   kept = record {
     fit = fit;
     short = short;
-    methods = empty.methods;
     numbers = numbers;
     own = all-owned p is r.own.items empty.own;
     lineage = lineage;

@@ -140,7 +140,6 @@ module _ (p : Program) (old : Reveal) (is : IsRevelation p old) (lineage : Linea
     kept = record {
       fit = is.kept.fit;
       short = is.kept.short;
-      methods = is.kept.methods;
       numbers = is.kept.numbers;
       own = is.kept.own;
       lineage = record {

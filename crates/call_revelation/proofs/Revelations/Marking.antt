@@ -27,14 +27,12 @@ use Rattle.call_revelation.specs.declared.reveal.Reveal.{Reveal}
 use Rattle.call_revelation.specs.Books.{IsBookOf, code_at, methods_gathered}
 use Rattle.call_revelation.specs.CalledClasses.{AreHanded, HasCalled, HasUppers}
 use Rattle.call_revelation.specs.Flags.{flag_at}
-use Rattle.call_revelation.specs.Reveals.{IsAhead, IsKept, IsRevelation, is_placed, mark_by, mark_kept, now_of}
+use Rattle.call_revelation.specs.Reveals.{IsAhead, IsKept, IsRevelation, mark_by, mark_kept, now_of}
 use Rattle.class_index.specs.Orders.{with_class}
 use Rattle.call_revelation.proofs.Classes.LoadStep.{load-step}
 
-pub mark-is : (p : Program) (r : Reveal) → IsRevelation p r → (m : ℕ) → mark_kept r m ≡ mark_of p (now_of r) m
-mark-is p r is m =
-    ap (λ methods. mark_by (is_placed methods r.lineage.loaded m) (is_among m r.selected) (is_among m r.targets)) is.kept.methods
-    ∙ ap (λ t. mark_by (has_class p r.lineage.loaded m) (is_among m r.selected) t) (is.targets m)
+pub mark-is : (p : Program) (r : Reveal) → IsRevelation p r → (m : ℕ) → mark_kept p r m ≡ mark_of p (now_of r) m
+mark-is p r is m = ap (λ t. mark_by (has_class p r.lineage.loaded m) (is_among m r.selected) t) (is.targets m)
 
 -- ---- a class is loaded more
 
@@ -47,7 +45,6 @@ pub kept-loaded : (p : Program) (r : Reveal) (new : ℕ) (lineage : Lineage) →
 kept-loaded p r new lineage is lined loaded handed = record {
   fit = is.fit;
   short = is.short;
-  methods = is.methods;
   numbers = is.numbers;
   own = is.own;
   lineage = lined;
@@ -66,7 +63,6 @@ pub kept-other : (p : Program) (r : Reveal) (targets stale : List ℕ) → IsKep
 kept-other p r targets stale is = record {
   fit = is.fit;
   short = is.short;
-  methods = is.methods;
   numbers = is.numbers;
   own = is.own;
   lineage = is.lineage;
@@ -86,7 +82,6 @@ pub kept-read : (p : Program) (r : Reveal) (book : Book) → IsKept p r → IsBo
 kept-read p r book is booked codes = record {
   fit = is.fit;
   short = is.short;
-  methods = is.methods;
   numbers = is.numbers;
   own = is.own;
   lineage = is.lineage;
@@ -106,7 +101,6 @@ pub kept-named : (p : Program) (r : Reveal) (named : Named) → IsKept p r → A
 kept-named p r named is handed more = record {
   fit = is.fit;
   short = is.short;
-  methods = is.methods;
   numbers = is.numbers;
   own = is.own;
   lineage = is.lineage;
@@ -234,7 +228,6 @@ module _ (p : Program) (r : Reveal) (is : IsRevelation p r) (method : ℕ) (with
     kept = record {
       fit = is.kept.fit;
       short = is.kept.short;
-      methods = is.kept.methods;
       numbers = is.kept.numbers;
       own = is.kept.own;
       lineage = is.kept.lineage;
@@ -265,7 +258,6 @@ reselected p r is selected stale same = record {
   kept = record {
     fit = is.kept.fit;
     short = is.kept.short;
-    methods = is.kept.methods;
     numbers = is.kept.numbers;
     own = is.kept.own;
     lineage = is.kept.lineage;
@@ -319,7 +311,6 @@ quieted p r is flags stale long off staled = record {
   kept = record {
     fit = is.kept.fit;
     short = is.kept.short;
-    methods = is.kept.methods;
     numbers = is.kept.numbers;
     own = is.kept.own;
     lineage = is.kept.lineage;

@@ -112,40 +112,39 @@ module _ (p : Program) (r : Reveal) (is : IsRevelation p r) (before : Revealed) 
   abbrev test : ℕ × MethodPlace → Bool
   test e = e.1.class == class && not (same_mark (mark_of p before e.0) (mark_of p (now_of r) e.0))
 
-  not-same : (m : ℕ) (place : MethodPlace) → slice_get p.methods m ≡ Some place → (b : Bool) → same_mark (mark_at r.shown m) (mark_kept r m) ≡ b
+  not-same : (m : ℕ) (place : MethodPlace) → slice_get p.methods m ≡ Some place → (b : Bool) → same_mark (mark_at r.shown m) (mark_kept p r m) ≡ b
       → same_mark (mark_of p before m) (mark_of p (now_of r) m) ≡ b
   not-same m place e b k = sym (ap₂ (λ x y. same_mark x y) (was-shown m place e) (mark-is p r is m)) ∙ k
 
   -- the class of a method that changed
   record IsChanged (m : ℕ) : Type 0 where
     place : MethodPlace
-    there : slice_get r.methods m ≡ Some place
+    there : slice_get p.methods m ≡ Some place
     is_class : place.class ≡ class
-    other : same_mark (mark_at r.shown m) (mark_kept r m) ≡ false
+    other : same_mark (mark_at r.shown m) (mark_kept p r m) ≡ false
 
-  is-changed : (m : ℕ) → class_changed r m ≡ Some class → IsChanged m
-  is-changed m e = by (same_mark (mark_at r.shown m) (mark_kept r m)) refl e
+  is-changed : (m : ℕ) → class_changed p r m ≡ Some class → IsChanged m
+  is-changed m e = by (same_mark (mark_at r.shown m) (mark_kept p r m)) refl e
     where
-      at : (o : Option MethodPlace) → slice_get r.methods m ≡ o → same_mark (mark_at r.shown m) (mark_kept r m) ≡ false
+      at : (o : Option MethodPlace) → slice_get p.methods m ≡ o → same_mark (mark_at r.shown m) (mark_kept p r m) ≡ false
           → option_map_or (λ (place : MethodPlace). Some place.class) o None ≡ Some class → IsChanged m
       at None o k e = absurd (none-some class e)
       at (Some place) o k e = record { place = place; there = o; is_class = same_Some place.class class e; other = k }
 
-      by : (b : Bool) → same_mark (mark_at r.shown m) (mark_kept r m) ≡ b
-          → (if b then None else option_map_or (λ (place : MethodPlace). Some place.class) (slice_get r.methods m) None) ≡ Some class → IsChanged m
+      by : (b : Bool) → same_mark (mark_at r.shown m) (mark_kept p r m) ≡ b
+          → (if b then None else option_map_or (λ (place : MethodPlace). Some place.class) (slice_get p.methods m) None) ≡ Some class → IsChanged m
       by true k e = absurd (none-some class e)
-      by false k e = at (slice_get r.methods m) refl k e
+      by false k e = at (slice_get p.methods m) refl k e
 
-  changed-to : is_among class (filter_map (class_changed r) r.stale) ≡ true → list_any test (enumerate_from 0 p.methods) ≡ true
+  changed-to : is_among class (filter_map (class_changed p r) r.stale) ≡ true → list_any test (enumerate_from 0 p.methods) ≡ true
   changed-to h =
-      let made = made-from (class_changed r) r.stale class h in
+      let made = made-from (class_changed p r) r.stale class h in
       let c = is-changed made.item made.gives in
-      let here : slice_get p.methods made.item ≡ Some c.place = sym (ap (λ l. slice_get l made.item) is.kept.methods) ∙ c.there in
-      any-numbered test 0 p.methods made.item c.place here
+      any-numbered test 0 p.methods made.item c.place c.there
       (ap (λ (j : ℕ). test (j, c.place)) (let z : 0 + made.item ≡ made.item = omega arith in z)
       ∙ and_from (c.place.class == class) (not (same_mark (mark_of p before made.item) (mark_of p (now_of r) made.item)))
       (ap (λ k. k == class) c.is_class ∙ equals_itself class)
-      (ap not (not-same made.item c.place here false c.other)))
+      (ap not (not-same made.item c.place c.there false c.other)))
 
   -- a method that is not stale was shown as it is
   is-stale : (m : ℕ) (place : MethodPlace) → slice_get p.methods m ≡ Some place → same_mark (mark_of p before m) (mark_of p (now_of r) m) ≡ false → is_among m r.stale ≡ true
@@ -156,25 +155,25 @@ module _ (p : Program) (r : Reveal) (is : IsRevelation p r) (before : Revealed) 
       by false k =
           absurd (false≢true (sym other ∙ (ap (λ x. same_mark x (mark_of p (now_of r) m)) (sym (was-shown m place e) ∙ is.shown m k) ∙ same-itself (mark_of p (now_of r) m))))
 
-  changed-from : list_any test (enumerate_from 0 p.methods) ≡ true → is_among class (filter_map (class_changed r) r.stale) ≡ true
+  changed-from : list_any test (enumerate_from 0 p.methods) ≡ true → is_among class (filter_map (class_changed p r) r.stale) ≡ true
   changed-from h =
       let i = numbered-any test 0 p.methods h in
       let holds : test (i.index, i.item) ≡ true = ap (λ (j : ℕ). test (j, i.item)) (let z : i.index ≡ 0 + i.index = omega arith in z) ∙ i.holds in
       let of_class = eqb-true i.item.class class (and_parts (i.item.class == class) (not (same_mark (mark_of p before i.index) (mark_of p (now_of r) i.index))) holds).0 in
       let other = is-not (same_mark (mark_of p before i.index) (mark_of p (now_of r) i.index))
       (and_parts (i.item.class == class) (not (same_mark (mark_of p before i.index) (mark_of p (now_of r) i.index))) holds).1 in
-      made-to (class_changed r) r.stale i.index class (is-stale i.index i.item i.there other)
-      (ap (λ b. if b then None else option_map_or (λ (place : MethodPlace). Some place.class) (slice_get r.methods i.index) None)
+      made-to (class_changed p r) r.stale i.index class (is-stale i.index i.item i.there other)
+      (ap (λ b. if b then None else option_map_or (λ (place : MethodPlace). Some place.class) (slice_get p.methods i.index) None)
       (ap₂ (λ x y. same_mark x y) (was-shown i.index i.item i.there) (mark-is p r is i.index) ∙ other)
-      ∙ (ap (λ o. option_map_or (λ (place : MethodPlace). Some place.class) o None) (ap (λ l. slice_get l i.index) is.kept.methods ∙ i.there)
+      ∙ (ap (λ o. option_map_or (λ (place : MethodPlace). Some place.class) o None) i.there
       ∙ ap (λ c. Some c) of_class))
     where
       is-not : (b : Bool) → not b ≡ true → b ≡ false
       is-not false h = refl
       is-not true h = absurd (false≢true h)
 
-  class-differs : is_among class (filter_map (class_changed r) r.stale) ≡ differs p (operations_of p) (stand_of before) (stand_of (now_of r)) class
-  class-differs = alike (is_among class (filter_map (class_changed r) r.stale)) (list_any test (enumerate_from 0 p.methods)) changed-to changed-from
+  class-differs : is_among class (filter_map (class_changed p r) r.stale) ≡ differs p (operations_of p) (stand_of before) (stand_of (now_of r)) class
+  class-differs = alike (is_among class (filter_map (class_changed p r) r.stale)) (list_any test (enumerate_from 0 p.methods)) changed-to changed-from
 
 -- ---- and their places in load order
 
@@ -183,23 +182,23 @@ module _ (p : Program) (r : Reveal) (is : IsRevelation p r) (before : Revealed) 
   is_changed = differs p (operations_of p) (stand_of before) (stand_of (now_of r))
 
   abbrev changed_classes : List ℕ
-  changed_classes = filter_map (class_changed r) r.stale
+  changed_classes = filter_map (class_changed p r) r.stale
 
   abbrev changed_ranks : List ℕ
-  changed_ranks = filter_map (rank_changed r) r.stale
+  changed_ranks = filter_map (rank_changed p r) r.stale
 
   -- at the place of a class that changed
   rank-hit : (i : ℕ) → is_among i changed_ranks ≡ true → option_map_or is_changed (slice_get r.lineage.loaded i) false ≡ true
   rank-hit i h =
-      let made = made-from (rank_changed r) r.stale i h in
-      by made.item made.there (class_changed r made.item) refl made.gives
+      let made = made-from (rank_changed p r) r.stale i h in
+      by made.item made.there (class_changed p r made.item) refl made.gives
     where
-      by : (m : ℕ) → is_among m r.stale ≡ true → (o : Option ℕ) → class_changed r m ≡ o
+      by : (m : ℕ) → is_among m r.stale ≡ true → (o : Option ℕ) → class_changed p r m ≡ o
           → option_and_then (λ class. rank_of class r.lineage.loaded) o ≡ Some i → option_map_or is_changed (slice_get r.lineage.loaded i) false ≡ true
       by m stale None e ranked = absurd (none-some i ranked)
       by m stale (Some class) e ranked =
           ap (λ o. option_map_or is_changed o false) (rank-there class r.lineage.loaded i ranked)
-          ∙ (sym (class-differs p r is before shown class) ∙ made-to (class_changed r) r.stale m class stale e)
+          ∙ (sym (class-differs p r is before shown class) ∙ made-to (class_changed p r) r.stale m class stale e)
 
   hit-rank : (i : ℕ) → option_map_or is_changed (slice_get r.lineage.loaded i) false ≡ true → is_among i changed_ranks ≡ true
   hit-rank i h = by (slice_get r.lineage.loaded i) refl h
@@ -207,8 +206,8 @@ module _ (p : Program) (r : Reveal) (is : IsRevelation p r) (before : Revealed) 
       by : (o : Option ℕ) → slice_get r.lineage.loaded i ≡ o → option_map_or is_changed o false ≡ true → is_among i changed_ranks ≡ true
       by None e h = absurd (false≢true h)
       by (Some class) e h =
-          let made = made-from (class_changed r) r.stale class (class-differs p r is before shown class ∙ h) in
-          made-to (rank_changed r) r.stale made.item i made.there
+          let made = made-from (class_changed p r) r.stale class (class-differs p r is before shown class ∙ h) in
+          made-to (rank_changed p r) r.stale made.item i made.there
           (ap (option_and_then (λ c. rank_of c r.lineage.loaded)) made.gives ∙ rank-is class r.lineage.loaded i alone e)
 
   pub classes-changed : (ranks : List ℕ) → IsRising ranks → ((rank : ℕ) → is_among rank ranks ≡ is_among rank changed_ranks)
@@ -219,41 +218,41 @@ module _ (p : Program) (r : Reveal) (is : IsRevelation p r) (before : Revealed) 
 
 -- ---- marks that are shown
 
-marks-length : (r : Reveal) (methods : List ℕ) (shown : List Mark) → length (with_marks r methods shown) ≡ length shown
-marks-length r [] shown = refl
-marks-length r (m ∷ rest) shown = marks-length r rest (slice_set shown m (mark_kept r m)) ∙ set-length shown m (mark_kept r m)
+marks-length : (p : Program) (r : Reveal) (methods : List ℕ) (shown : List Mark) → length (with_marks p r methods shown) ≡ length shown
+marks-length p r [] shown = refl
+marks-length p r (m ∷ rest) shown = marks-length p r rest (slice_set shown m (mark_kept p r m)) ∙ set-length shown m (mark_kept p r m)
 
 -- a mark that is right stays so
-mark-stays : (r : Reveal) (methods : List ℕ) (shown : List Mark) (m : ℕ) → m < length shown → mark_at shown m ≡ mark_kept r m
-    → mark_at (with_marks r methods shown) m ≡ mark_kept r m
-mark-stays r [] shown m within e = e
-mark-stays r (x ∷ rest) shown m within e =
-    mark-stays r rest (slice_set shown x (mark_kept r x)) m (subst (λ n. m < n) (sym (set-length shown x (mark_kept r x))) within) (by (m == x) refl)
+mark-stays : (p : Program) (r : Reveal) (methods : List ℕ) (shown : List Mark) (m : ℕ) → m < length shown → mark_at shown m ≡ mark_kept p r m
+    → mark_at (with_marks p r methods shown) m ≡ mark_kept p r m
+mark-stays p r [] shown m within e = e
+mark-stays p r (x ∷ rest) shown m within e =
+    mark-stays p r rest (slice_set shown x (mark_kept p r x)) m (subst (λ n. m < n) (sym (set-length shown x (mark_kept p r x))) within) (by (m == x) refl)
   where
-    by : (b : Bool) → (m == x) ≡ b → mark_at (slice_set shown x (mark_kept r x)) m ≡ mark_kept r m
+    by : (b : Bool) → (m == x) ≡ b → mark_at (slice_set shown x (mark_kept p r x)) m ≡ mark_kept p r m
     by true k =
         let same = eqb-true m x k in
-        ap (λ j. mark_at (slice_set shown x (mark_kept r x)) j) same
-        ∙ (ap (λ (o : Option Mark). unwrap_or o Off) (slice_get-set_same shown x (mark_kept r x) (subst (λ j. j < length shown) same within)) ∙ ap (mark_kept r) (sym same))
-    by false k = ap (λ (o : Option Mark). unwrap_or o Off) (set-other shown x m (mark_kept r x) k) ∙ e
+        ap (λ j. mark_at (slice_set shown x (mark_kept p r x)) j) same
+        ∙ (ap (λ (o : Option Mark). unwrap_or o Off) (slice_get-set_same shown x (mark_kept p r x) (subst (λ j. j < length shown) same within)) ∙ ap (mark_kept p r) (sym same))
+    by false k = ap (λ (o : Option Mark). unwrap_or o Off) (set-other shown x m (mark_kept p r x) k) ∙ e
 
-mark-set : (r : Reveal) (methods : List ℕ) (shown : List Mark) (m : ℕ) → m < length shown → is_among m methods ≡ true
-    → mark_at (with_marks r methods shown) m ≡ mark_kept r m
-mark-set r [] shown m within h = absurd (false≢true h)
-mark-set r (x ∷ rest) shown m within h =
-    let longer = subst (λ n. m < n) (sym (set-length shown x (mark_kept r x))) within in
+mark-set : (p : Program) (r : Reveal) (methods : List ℕ) (shown : List Mark) (m : ℕ) → m < length shown → is_among m methods ≡ true
+    → mark_at (with_marks p r methods shown) m ≡ mark_kept p r m
+mark-set p r [] shown m within h = absurd (false≢true h)
+mark-set p r (x ∷ rest) shown m within h =
+    let longer = subst (λ n. m < n) (sym (set-length shown x (mark_kept p r x))) within in
     elim (or_cases (m == x) (is_among m rest) h) [
       | inl k ↦
           let same = eqb-true m x k in
-          mark-stays r rest (slice_set shown x (mark_kept r x)) m longer
-          (ap (λ j. mark_at (slice_set shown x (mark_kept r x)) j) same
-          ∙ (ap (λ (o : Option Mark). unwrap_or o Off) (slice_get-set_same shown x (mark_kept r x) (subst (λ j. j < length shown) same within)) ∙ ap (mark_kept r) (sym same)))
-      | inr later ↦ mark-set r rest (slice_set shown x (mark_kept r x)) m longer later
+          mark-stays p r rest (slice_set shown x (mark_kept p r x)) m longer
+          (ap (λ j. mark_at (slice_set shown x (mark_kept p r x)) j) same
+          ∙ (ap (λ (o : Option Mark). unwrap_or o Off) (slice_get-set_same shown x (mark_kept p r x) (subst (λ j. j < length shown) same within)) ∙ ap (mark_kept p r) (sym same)))
+      | inr later ↦ mark-set p r rest (slice_set shown x (mark_kept p r x)) m longer later
     ]
 
 module _ (p : Program) (r : Reveal) (is : IsRevelation p r) where
   abbrev now_shown : List Mark
-  now_shown = with_marks r r.stale r.shown
+  now_shown = with_marks p r r.stale r.shown
 
   pub shown-now : (m : ℕ) → m < length p.methods → mark_at now_shown m ≡ mark_of p (now_of r) m
   shown-now m within = by (is_among m r.stale) refl
@@ -262,8 +261,8 @@ module _ (p : Program) (r : Reveal) (is : IsRevelation p r) where
       less = subst (λ n. m < n) (sym is.kept.marked) within
 
       by : (b : Bool) → is_among m r.stale ≡ b → mark_at now_shown m ≡ mark_of p (now_of r) m
-      by true e = mark-set r r.stale r.shown m less e ∙ mark-is p r is m
-      by false e = mark-stays r r.stale r.shown m less (is.shown m e ∙ sym (mark-is p r is m)) ∙ mark-is p r is m
+      by true e = mark-set p r r.stale r.shown m less e ∙ mark-is p r is m
+      by false e = mark-stays p r r.stale r.shown m less (is.shown m e ∙ sym (mark-is p r is m)) ∙ mark-is p r is m
 
   past : (xs : List Mark) (m : ℕ) → length xs ≤ m → mark_at xs m ≡ Off
   past [] m h = refl
@@ -281,7 +280,7 @@ module _ (p : Program) (r : Reveal) (is : IsRevelation p r) where
       by : (m < length p.methods) ⊎ (length p.methods ≤ m) → mark_at now_shown m ≡ mark_of p (now_of r) m
       by (inl within) = shown-now m within
       by (inr beyond) =
-          past now_shown m (subst (λ n. n ≤ m) (sym (marks-length r r.stale r.shown ∙ is.kept.marked)) beyond)
+          past now_shown m (subst (λ n. n ≤ m) (sym (marks-length p r r.stale r.shown ∙ is.kept.marked)) beyond)
           ∙ sym (ap (λ (o : Option MethodPlace). mark_by (option_map_or (λ (place : MethodPlace). is_among place.class r.lineage.loaded) o false)
           (is_among m r.selected) (is_target p (operations_of p) r.lineage.loaded r.entered m)) (nowhere p.methods m beyond))
 
@@ -296,7 +295,7 @@ module _ (p : Program) (r : Reveal) (is : IsRevelation p r) where
 
   pub all-shown : now_shown ≡ marks_of p (now_of r)
   all-shown =
-      same-marks (mark_of p (now_of r)) 0 now_shown p.methods (marks-length r r.stale r.shown ∙ is.kept.marked)
+      same-marks (mark_of p (now_of r)) 0 now_shown p.methods (marks-length p r r.stale r.shown ∙ is.kept.marked)
       (λ i within. shown-now i within ∙ ap (mark_of p (now_of r)) (let z : i ≡ 0 + i = omega arith in z))
 
   pub reshown : IsRevelation p (record r { shown = now_shown; stale = [] })
@@ -304,14 +303,13 @@ module _ (p : Program) (r : Reveal) (is : IsRevelation p r) where
     kept = record {
       fit = is.kept.fit;
       short = is.kept.short;
-      methods = is.kept.methods;
       numbers = is.kept.numbers;
       own = is.kept.own;
       lineage = is.kept.lineage;
       book = is.kept.book;
       flags = is.kept.flags;
       flagged = is.kept.flagged;
-      marked = marks-length r r.stale r.shown ∙ is.kept.marked;
+      marked = marks-length p r r.stale r.shown ∙ is.kept.marked;
       booked = is.kept.booked;
       callers = is.kept.callers;
       named = is.kept.named;

@@ -70,17 +70,15 @@ order-first v l is link before_the_run =
     let program : l.program ≡ v.program = ap (λ (l : LinkerView). l.program) link in
     subst (λ p. IsLoadOrder p [] l.loaded) (sym program) (subst (IsLoadOrder v.program []) (sym loaded) (before-order (world v) (revealable (world v) is).order))
 
-pub first-of : (v : View) (r new last : Reveal) (l : LinkerView) → l ≡ linking v → v.started ≡ false → now_of r ≡ nothing_revealed → IsRevelation l.program new
-    → now_of new ≡ with_loaded l.loaded (now_of r) → ((p : Program) → IsRevelation p new → IsRevelation p last) → now_of last ≡ now_of new
-    → ((p : Program) → IsRevelation p new → last.shown ≡ marks_of p (now_of new)) → IsFirst v last
-first-of v r new last l link before_the_run none rev now later same shown =
-    let program : l.program ≡ v.program = ap (λ (l : LinkerView). l.program) link in
+pub first-of : (v : View) (r new last : Reveal) (l : LinkerView) → l ≡ linking v → v.started ≡ false → now_of r ≡ nothing_revealed
+    → now_of new ≡ with_loaded l.loaded (now_of r) → IsRevelation v.program last → now_of last ≡ now_of new → last.shown ≡ marks_of v.program (now_of new)
+    → IsFirst v last
+first-of v r new last l link before_the_run none now rev same shown =
     let loaded : l.loaded ≡ loaded-first v = ap (λ (l : LinkerView). l.loaded) link ∙ linked-first v before_the_run in
-    let rev_v : IsRevelation v.program new = subst (λ p. IsRevelation p new) program rev in
     record {
-      revelation = later v.program rev_v;
+      revelation = rev;
       now = same ∙ (now ∙ ap₂ with_loaded loaded none);
-      shown = shown v.program rev_v ∙ ap (marks_of v.program) (sym same);
+      shown = shown ∙ ap (marks_of v.program) (sym same);
     }
 
 -- ---- at rest

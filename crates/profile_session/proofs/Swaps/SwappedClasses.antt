@@ -216,6 +216,12 @@ pub changed-shown : (p : Program) (shown : List Mark) (before now : Revealed) �
 changed-shown p shown before now is =
     filter-same (differs_from p shown now) (differs p (operations_of p) (stand_of before) (stand_of now)) (differs-shown p shown before now is) now.loaded
 
+-- and of an equal program
+pub changed-equal : (p q : Program) (shown : List Mark) (before now : Revealed) (classes : List ℕ) → q ≡ p → shown ≡ marks_of p before
+    → ((before : Revealed) → shown ≡ marks_of q before → classes ≡ changed_of q before now) → classes ≡ changed_of p before now
+changed-equal p q shown before now classes same is each =
+    each before (is ∙ ap (λ (p : Program). marks_of p before) (sym same)) ∙ ap (λ (p : Program). changed_of p before now) same
+
 -- a class that has changed is one of the program
 pub record IsPair (test : NumberedMethod → Bool) (n : ℕ) (l : List MethodPlace) : Type 0 where
   pub at : ℕ
@@ -257,6 +263,16 @@ known-in p (c ∷ classes) (suc i) all less = known-in p classes i all.1 (omega 
 pub known-at : (p q : Program) → q ≡ p → (classes : List ℕ) (i class : ℕ) → AreKnown p classes → i < length classes → class ≡ get_or classes i 0 → class < length q.classes
 known-at p q same classes i class all less at =
     subst (λ (p : Program). class < length p.classes) (sym same) (subst (λ c. c < length p.classes) (sym at) (known-in p classes i all less))
+
+-- ---- the program stays
+
+classes-program : (p : Program) (r : Revealed) (classes : List ℕ) (v : View) → (with_classes p r classes v).program ≡ v.program
+classes-program p r [] v = refl
+classes-program p r (c ∷ more) v = classes-program p r more (with_class c (marks_for p r c) v)
+
+pub swapped-program : (p : Program) (r : Revealed) (classes : List ℕ) (old new : View) (before after : List Swap) → HasSwapped p r classes old new before after
+    → new.program ≡ old.program
+swapped-program p r classes old new before after is = ap (λ (v : View). v.program) is.vm ∙ classes-program p r classes old
 
 -- ---- from class to class
 

@@ -1,9 +1,10 @@
 use Rattle.std.proofs.Common.{◌≡◌, ap, sym, subst, ◌∙◌, arith, length}
 use Rattle.std.specs.List.{AllByRecursion}
 use Rattle.jvm_model.specs.Basis.Programs.{methods_numbered}
+use Rattle.jvm_model.specs.Profiling.Revealed.{marks_of}
 use Rattle.jvm_model.specs.Soundness.Sound.{IsFit}
 use Rattle.prepared_code.specs.Prepared.{HasShortCodes}
-use Rattle.call_revelation.specs.Reveals.{IsRevelation}
+use Rattle.call_revelation.specs.Reveals.{IsRevelation, now_of}
 use Rattle.jvm_model.specs.declared.program.Program.{Program}
 use Rattle.profile_session.proofs.Sessions.FirstParts.{ahead-first, first-of, front-first, order-first}
 use Rattle.profile_session.proofs.Points.Points.{linked}
@@ -42,8 +43,14 @@ loaded-requires-clause-order c =
     let v = c.args.vm.now in
     order-first v c.linker.result.now c.requires.profilable.whole (linked c.linker.result.now v c.linker.ensures.program (c.linker.ensures.loaded c.requires.whole)) c.requires.before_the_run
 
+pub show-requires : goal.show-requires
+show-requires c =
+    subst (λ (p : Program). IsRevelation p c.loaded.new.self) (c.linker.ensures.program ∙ sym c.program-2.ensures) c.in_ok-loaded.ensures.revelation
+
 pub returns : goal.returns
 returns c =
     let v = c.args.vm.now in
+    let same = c.program-2.ensures in
     first-of v c.in_ok-reveal.reveal c.loaded.new.self c.show.new.self c.linker.result.now (linked c.linker.result.now v c.linker.ensures.program (c.linker.ensures.loaded c.requires.whole))
-    c.requires.before_the_run c.in_ok-reveal.ensures.now c.in_ok-loaded.ensures.revelation c.in_ok-loaded.ensures.now c.show.ensures.revelation c.show.ensures.now c.show.ensures.shown
+    c.requires.before_the_run c.in_ok-reveal.ensures.now c.in_ok-loaded.ensures.now (subst (λ (p : Program). IsRevelation p c.show.new.self) same c.show.ensures.revelation)
+    c.show.ensures.now (c.show.ensures.shown ∙ ap (λ (p : Program). marks_of p (now_of c.loaded.new.self)) same)

@@ -1,7 +1,8 @@
 use Rattle.std.specs.Prelude.{IfOk}
-use Rattle.std.proofs.Common.{◌≡◌, subst}
-use Rattle.jvm_model.specs.Profiling.Revealed.{changed_of}
-use Rattle.call_revelation.specs.Reveals.{now_of}
+use Rattle.std.proofs.Common.{◌≡◌, ap, subst, sym, ◌∙◌}
+use Rattle.jvm_model.specs.declared.program.Program.{Program}
+use Rattle.jvm_model.specs.Profiling.Revealed.{changed_of, marks_of}
+use Rattle.call_revelation.specs.Reveals.{IsRevelation, now_of}
 use Rattle.revelation_rows.proofs.ToldLemmas.{told-begins, told-changed, told-marks, told-selected, told-selects}
 use Rattle.revelation_rows.proofs.looking.fact_told.Goals as goal
 
@@ -16,13 +17,19 @@ returns-in_ok-marks-in-Marks-clause-told c =
 pub returns-in_ok-marks-in-Marks-clause-followed : goal.returns-in_ok-marks-in-Marks-clause-followed
 returns-in_ok-marks-in-Marks-clause-followed c = c.in_ok-follow.ensures
 
+pub changed-requires : goal.changed-requires
+changed-requires c = subst (λ (p : Program). IsRevelation p c.follow.new.reveal) (sym c.program.ensures) c.in_ok-follow.ensures.ready.along.revelation
+
 pub returns-in_ok-changed-in-Changed-clause-told : goal.returns-in_ok-changed-in-Changed-clause-told
 returns-in_ok-changed-in-Changed-clause-told c =
     let p = c.args.linker.now.program in
-    let by = c.in_ok-follow.ensures in
-    told-changed c.args.linker.now c.args.reveal.now c.follow.new.reveal by c.args.fact.now c.in-Changed.field-0 c.in_ok-changed-in-Changed.field-0 c.in-Changed.is
-    (λ before shown. subst (λ found. IfOk found (λ cs. cs ≡ changed_of p before (now_of c.follow.new.reveal))) c.in_ok-changed-in-Changed.was
-    (c.changed.ensures p before by.ready.along.revelation shown))
+    let now = now_of c.follow.new.reveal in
+    let same = c.program.ensures in
+    told-changed c.args.linker.now c.args.reveal.now c.follow.new.reveal c.in_ok-follow.ensures c.args.fact.now c.in-Changed.field-0
+    c.in_ok-changed-in-Changed.field-0 c.in-Changed.is
+    (λ before shown. subst (λ found. IfOk found (λ cs. cs ≡ changed_of p before now)) c.in_ok-changed-in-Changed.was
+    (subst (λ (q : Program). IfOk c.changed.result (λ cs. cs ≡ changed_of q before now)) same
+    (c.changed.ensures before (shown ∙ ap (λ (q : Program). marks_of q before) (sym same)))))
 
 pub returns-in_ok-changed-in-Changed-clause-followed : goal.returns-in_ok-changed-in-Changed-clause-followed
 returns-in_ok-changed-in-Changed-clause-followed c = c.in_ok-follow.ensures

@@ -16,6 +16,9 @@ new-requires-clause-short c = (runnable c.args.program c.requires).fits.codes
 pub new-requires-clause-fit : goal.new-requires-clause-fit
 new-requires-clause-fit c = (runnable c.args.program c.requires).fit
 
+pub show-requires : goal.show-requires
+show-requires c = c.in_ok-reveal.ensures.revelation
+
 pub new-requires-2 : goal.new-requires-2
 new-requires-2 c = (runnable c.args.program c.requires).fits.linkable
 
@@ -23,8 +26,8 @@ pub returns-clause-blank : goal.returns-clause-blank
 returns-clause-blank c =
     let p = c.args.program in
     let first = c.in_ok-reveal.ensures in
-    blank p c.in_ok-linker.linker c.show.new.self c.requires c.in_ok-linker.ensures (c.show.ensures.revelation p first.revelation)
-    (c.show.ensures.now ∙ first.now) (c.show.ensures.shown p first.revelation ∙ ap (marks_of p) first.now)
+    blank p c.in_ok-linker.linker c.show.new.self c.requires c.in_ok-linker.ensures c.show.ensures.revelation
+    (c.show.ensures.now ∙ first.now) (c.show.ensures.shown ∙ ap (marks_of p) first.now)
 
 pub returns-clause-linker : goal.returns-clause-linker
 returns-clause-linker c = c.in_ok-linker.ensures

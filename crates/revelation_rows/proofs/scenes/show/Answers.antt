@@ -1,9 +1,16 @@
+use Rattle.std.proofs.Common.{ap, subst, sym, ◌∙◌}
+use Rattle.jvm_model.specs.declared.program.Program.{Program}
+use Rattle.jvm_model.specs.Profiling.Revealed.{marks_of}
+use Rattle.call_revelation.specs.Reveals.{IsRevelation, now_of}
 use Rattle.revelation_rows.proofs.HappeningLemmas.{shows}
 use Rattle.revelation_rows.proofs.scenes.show.Goals as goal
 
+pub show-requires : goal.show-requires
+show-requires c = subst (λ (p : Program). IsRevelation p c.follow.new.reveal) (sym c.program.ensures) c.in_ok-follow.ensures.ready.along.revelation
+
 pub returns : goal.returns
 returns c =
-    let p = c.args.linker.now.program in
-    let by = c.in_ok-follow.ensures in
-    shows c.args.linker.now c.args.reveal.now c.follow.new.reveal c.show.new.self by (c.show.ensures.revelation p by.ready.along.revelation) c.show.ensures.now
-    (c.show.ensures.shown p by.ready.along.revelation)
+    let same = c.program.ensures in
+    shows c.args.linker.now c.args.reveal.now c.follow.new.reveal c.show.new.self c.in_ok-follow.ensures
+    (subst (λ (p : Program). IsRevelation p c.show.new.self) same c.show.ensures.revelation) c.show.ensures.now
+    (c.show.ensures.shown ∙ ap (λ (p : Program). marks_of p (now_of c.follow.new.reveal)) same)

@@ -26,7 +26,6 @@ returns-clause-revelation c =
     (nothing-named p c.in_ok-named.named c.in_ok-named.ensures.classes (c.in_ok-named.ensures.above ∙ ap (λ n. replicate n []) c.len-classes.ensures)
     c.in_ok-lineage.lineage.loaded)
     (record {
-      methods = c.in_ok-methods.ensures ∙ places;
       own = c.in_ok-own.ensures ∙ ap₂ (λ (l : List MethodPlace) (n : ℕ). owned_from 0 l (replicate n [])) places c.len-classes.ensures;
       loaded = c.in_ok-lineage.ensures.loaded;
       selected = c.in_ok-selected.ensures;

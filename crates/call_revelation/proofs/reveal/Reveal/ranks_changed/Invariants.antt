@@ -6,4 +6,4 @@ use Rattle.call_revelation.proofs.reveal.Reveal.ranks_changed.Given as goal
 
 abbrev pub invariant-loop-method : goal.invariant-loop-method
 invariant-loop-method l =
-    l.ranks ++ filter_map (rank_changed l.self) (drop l.method-index l.self.stale) ≡ filter_map (rank_changed l.self) l.self.stale
+    l.ranks ++ filter_map (rank_changed l.program l.self) (drop l.method-index l.self.stale) ≡ filter_map (rank_changed l.program l.self) l.self.stale
