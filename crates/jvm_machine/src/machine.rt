@@ -121,7 +121,7 @@ impl Vm {
 
     /// Whether there is no step in hand.
     #[inline(always)]
-    fn is_resting(&self) -> bool
+    pub fn is_resting(&self) -> bool
         ensures { result ≡ is_resting self.now }
     {
         self.hand.passed == 0 && !self.hand.delivered

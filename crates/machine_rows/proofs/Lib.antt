@@ -6,6 +6,5 @@ mod NumberLemmas
 mod Otherwise
 mod Plays
 mod ReadingLemmas
-mod Rests
 mod SayingLemmas
 mod Stays

@@ -1,4 +1,4 @@
--- A machine that has told a turn is ready for the next one.
+-- A machine that was just made is ready for a turn, and one that has told a turn for the next one.
 use Rattle.std.proofs.Common.{◌≡◌, ◌≢◌, ℕ, Bool, true, false, refl, ap, ◌∙◌, subst, sym}
 use Rattle.std.specs.Prelude.{◌&&◌, if◌then◌else◌}
 use Rattle.jvm_machine.specs.declared.turn.Turn.{Turn}
@@ -10,7 +10,10 @@ use Rattle.std.proofs.Common.{List}
 use Rattle.jvm_model.specs.declared.event.Mark.{Mark}
 use Rattle.jvm_machine.specs.Installs.{with_class}
 use Rattle.program_fit.specs.Runnable.{IsAdmitted}
-use Rattle.machine_rows.specs.Ready.{IsReady}
+use Rattle.machine_rows.specs.Ready.{IsFresh, IsReady}
+
+pub fresh-ready : (v : View) → IsFresh v → IsReady v
+fresh-ready v f = subst IsReady (sym f.made) (record { whole = refl; admitted = f.admitted })
 
 -- its program stays, and it has found memory as before
 record Stays (old new : View) : Type 0 where
@@ -47,7 +50,7 @@ turn-ready old new Ended r t known =
 turn-ready old new Broken r t known = absurd (let e : true ≡ false = sym t.broken ∙ r.whole in cc)
 turn-ready old new NoMemory r t known = absurd (known refl)
 
-pub passes-ready : (old : View) (n : ℕ) (new : View) → IsReady old → Passes old n new → IsReady new
+passes-ready : (old : View) (n : ℕ) (new : View) → IsReady old → Passes old n new → IsReady new
 passes-ready old _ _ r Passes.none = r
 passes-ready old _ _ r (Passes.more m mid new p s) = turn-ready mid new Settled (passes-ready old m mid r p) s (λ e. absurd cc)
 

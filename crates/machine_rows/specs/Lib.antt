@@ -1,6 +1,5 @@
 pub mod Ready
 pub mod Played
-pub mod Resting
 pub mod Names
 pub mod Words
 pub mod Reading

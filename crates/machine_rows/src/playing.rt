@@ -1,13 +1,11 @@
 //! Plays the lines of a row on a machine.
 
-ghost use Rattle.std.specs.Prelude.{◌≡◌, ◌≢◌, None, Some, Ok, map, true, IfOk, IfSome};
-ghost use Rattle.jvm_machine.specs.View.{is_resting};
+ghost use Rattle.std.specs.Prelude.{◌≡◌, ◌≢◌, None, Some, Ok, map, IfOk, IfSome};
 ghost use Rattle.jvm_machine.specs.declared.turn.Turn.TheVariants.{NoMemory as of_memory};
 ghost use Rattle.machine_rows.specs.declared.line.Line.TheVariants.{Ran, Turned};
 ghost use Rattle.machine_rows.specs.Played.{FailsAt, IsOtherwise, IsPlayed};
 ghost use Rattle.machine_rows.specs.Played.{IsRun, IsTurned, PlaysAll};
 ghost use Rattle.machine_rows.specs.Ready.{IsFresh, IsReady};
-ghost use Rattle.machine_rows.specs.Resting.{rests_at, rests_behind};
 
 use crate::installing::{install, refuse};
 use crate::line::{Line, Placed};
@@ -71,22 +69,15 @@ fn turn(vm: &mut Vm, wanted: &Turn, clock: u64) -> Result<Option<Difference>, No
     turn_compared(wanted, clock, came, vm.clock())
 }
 
-/// Asks for several steps, where no step is in hand. `resting` says whether none is.
-fn run(
-    vm: &mut Vm,
-    most: u64,
-    wanted: &Turn,
-    clock: u64,
-    resting: bool,
-) -> Result<Option<Difference>, NoMemory>
-    requires ready { IsReady vm.old }
-    requires rests { resting ≡ is_resting vm.old }
+/// Asks for several steps, where no step is in hand.
+fn run(vm: &mut Vm, most: u64, wanted: &Turn, clock: u64) -> Result<Option<Difference>, NoMemory>
+    requires { IsReady vm.old }
     ensures ran { result ≡ Ok None → IsRun vm.old most wanted.now clock vm.new }
     ensures ready { result ≡ Ok None → IsReady vm.new }
     ensures otherwise { IfOk result (λ told. IfSome told
         (IsOtherwise vm.old (Ran most wanted.now clock))) }
 {
-    if vm.clock() > MOST_STEPS || most > MOST_STEPS || most == 0 || !resting {
+    if vm.clock() > MOST_STEPS || most > MOST_STEPS || most == 0 || !vm.is_resting() {
         return Ok(Some(Difference::Exhausted));
     }
     let came = vm.run_on(most);
@@ -123,44 +114,16 @@ fn same_count(wanted: u32, came: u32) -> Option<Difference>
     Some(Difference::Lives(came))
 }
 
-/// Whether no step is in hand behind a turn.
-fn rests_at(turn: &Turn) -> bool
-    ensures { result ≡ rests_at turn.now }
-{
-    match turn {
-        Turn::Settled | Turn::Ended => true,
-        Turn::Probe(_) | Turn::Loaded(_) | Turn::Broken | Turn::NoMemory => false,
-    }
-}
-
-/// Whether no step is in hand behind a line that has come, by whether none was before.
-fn rests_behind(line: &Line, resting: bool) -> bool
-    ensures { result ≡ rests_behind line.now resting }
-{
-    match line {
-        Line::Turned(turn, _) => rests_at(turn),
-        Line::Ran(_, turn, _) => rests_at(turn),
-        Line::Installed(..) | Line::Refused(..) => resting,
-        Line::Ended(_) | Line::Printed(_) | Line::Lives(_) => resting,
-    }
-}
-
 /// Plays a line.
-fn play(
-    alloc: Global,
-    vm: &mut Vm,
-    line: &Line,
-    resting: bool,
-) -> Result<Option<Difference>, NoMemory>
-    requires ready { IsReady vm.old }
-    requires rests { resting ≡ is_resting vm.old }
+fn play(alloc: Global, vm: &mut Vm, line: &Line) -> Result<Option<Difference>, NoMemory>
+    requires { IsReady vm.old }
     ensures played { result ≡ Ok None → IsPlayed line.now vm.old vm.new }
     ensures ready { result ≡ Ok None → IsReady vm.new }
     ensures otherwise { IfOk result (λ told. IfSome told (IsOtherwise vm.old line.now)) }
 {
     match line {
         Line::Turned(wanted, clock) => turn(vm, wanted, *clock),
-        Line::Ran(most, wanted, clock) => run(vm, *most, wanted, *clock, resting),
+        Line::Ran(most, wanted, clock) => run(vm, *most, wanted, *clock),
         Line::Installed(class, marks) => install(alloc, vm, *class, marks.as_slice()),
         Line::Refused(class, bytes, refusal) => {
             refuse(alloc, vm, *class, bytes.as_slice(), *refusal)
@@ -177,15 +140,13 @@ pub fn play_all(alloc: Global, vm: &mut Vm, lines: &[Placed]) -> Result<Option<F
     ensures came { result ≡ Ok None → PlaysAll (map (λ l. l.line) lines.now) vm.old }
     ensures failed { IfOk result (λ told. IfSome told (λ f. FailsAt lines.now f vm.old)) }
 {
-    let mut resting = true;
     for placed in lines {
-        if let Some(difference) = play(alloc, vm, &placed.line, resting)? {
+        if let Some(difference) = play(alloc, vm, &placed.line)? {
             return Ok(Some(Failure {
                 number: placed.number,
                 difference,
             }));
         }
-        resting = rests_behind(&placed.line, resting);
     }
     Ok(None)
 }

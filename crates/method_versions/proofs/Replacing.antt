@@ -1,14 +1,17 @@
--- Another version of the same method in the place of one: each method begins in the version in which it began.
+-- A version is prepared anew: it is of the same method, and each method begins in the version in which it began.
 use Rattle.std.proofs.Common.{◌≡◌, ◌≤◌, ℕ, Bool, true, false, List, Option, Some, None, refl, sym, ap, ◌∙◌}
-use Rattle.std.specs.Prelude.{◌==◌, is_some, if◌then◌else◌}
+use Rattle.std.specs.Prelude.{◌==◌, if◌then◌else◌}
 use Rattle.std.specs.Option.{IfSome, option_map}
 use Rattle.std.proofs.lemmas.Bool.{eqb-true}
 use Rattle.method_versions.specs.declared.versions.Held.{Held}
-use Rattle.method_versions.specs.Tables.{AreCurrent, current_in, held_in, is_listed, is_old, is_superseded_in, method_in}
+use Rattle.method_versions.specs.Tables.{AreCurrent, Table, current_in, held_anew, held_at, held_in, is_listed, is_old, is_superseded_in, method_in, prepared_anew}
 
-pub some-held : {T : Type 0} (o : Option (Held T)) (method : ℕ) → option_map (λ (h : Held T). h.method) o ≡ Some method → is_some o ≡ true
-some-held None method e = absurd cc
-some-held (Some h) method e = refl
+-- where there is no such version nothing changes
+pub none-anew : {T : Type 0} (t : Table T) (number : ℕ) (prepared : T) → held_at t number ≡ None → (k : ℕ) → held_at t k ≡ held_anew number prepared t k
+none-anew t number prepared none k = by (k == number) refl where
+  by : (b : Bool) → (k == number) ≡ b → held_at t k ≡ (if b then option_map (prepared_anew prepared) (held_at t number) else held_at t k)
+  by true e = ap (held_at t) (eqb-true k number e) ∙ (none ∙ sym (ap (option_map (prepared_anew prepared)) none))
+  by false e = refl
 
 none-held : {T : Type 0} (o : Option (Held T)) → option_map (λ (h : Held T). h.method) o ≡ None → o ≡ None
 none-held None e = refl

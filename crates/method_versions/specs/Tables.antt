@@ -75,6 +75,15 @@ module _ {T : Type 0} where
   abbrev pub held_for : List PlacedFrame → Table T → ℕ → Option (Held T)
   held_for fs t number = if is_superseded t number && pins_of number fs == 0 then None else held_at t number
 
+  -- the same version, of which this is prepared
+  abbrev pub prepared_anew : T → Held T → Held T
+  prepared_anew prepared version = record version { prepared = prepared }
+
+  -- what is held where the version with a number, if there is one, is prepared anew
+  abbrev pub held_anew : ℕ → T → Table T → ℕ → Option (Held T)
+  held_anew number prepared t other =
+      if other == number then option_map (prepared_anew prepared) (held_at t number) else held_at t other
+
   -- ---- tables that are made
 
   -- each method begins in a version of its own, and there is no other

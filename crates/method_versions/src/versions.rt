@@ -4,8 +4,8 @@ ghost use Rattle.std.specs.Prelude.{◌≡◌, ◌<◌, ◌+◌, ◌-◌, ◌≤
 ghost use Rattle.std.specs.List.{list_all};
 ghost use Rattle.frame_stack.specs.FrameLists.{pins_of};
 ghost use Rattle.slab.specs.Slab.{slab_len};
-ghost use Rattle.method_versions.specs.Tables.{IsFirst, current_of, held_at, held_in, held_for, method_in};
-ghost use Rattle.method_versions.specs.Tables.{held_but, held_with};
+ghost use Rattle.method_versions.specs.Tables.{IsFirst, current_of, held_at, held_in, held_for};
+ghost use Rattle.method_versions.specs.Tables.{held_anew, held_but, held_with};
 
 use frame_stack::Frames;
 use jf_bytes::NoMemory;
@@ -223,14 +223,20 @@ impl<T: Drop> Versions<T> {
         number
     }
 
-    /// Puts another version of the same method in the place of the one with this number.
-    pub fn replace(&mut self, number: usize, version: Held<T>)
-        requires { method_in self.old.slots number ≡ Some version.method }
+    /// Replaces what is prepared of the version with this number, if there is one.
+    pub fn replace(&mut self, number: usize, prepared: T)
         ensures held { (other : ℕ) → held_at self.new other
-            ≡ (if other == number then Some version else held_at self.old other) }
+            ≡ held_anew number prepared self.old other }
         ensures current { self.new.current ≡ self.old.current }
         ensures count { length self.new.slots ≡ length self.old.slots }
     {
+        let Some(held) = self.get(number) else {
+            return;
+        };
+        let version = Held {
+            method: held.method,
+            prepared,
+        };
         put_at(&mut self.first, &mut self.later, number, version);
     }
 

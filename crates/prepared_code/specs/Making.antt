@@ -2,11 +2,13 @@
 use Rattle.std.specs.Prelude.{◌≡◌, ℕ, Bool, false, true, List, [], length, map, Option, Some, if◌then◌else◌, ◌==◌}
 use Rattle.std.specs.List.{range_with_len}
 use Rattle.std.specs.Option.{IfSome, option_map, option_map_or}
+use Rattle.method_versions.specs.Tables.{prepared_anew}
 use Rattle.jvm_model.specs.declared.event.Mark.TheVariants.{Off}
 use Rattle.jvm_model.specs.declared.program.Program.{Program}
 use Rattle.prepared_lines.specs.declared.line.Line.{Line}
 use Rattle.prepared_code.specs.declared.passage.Passage.{Passage}
 use Rattle.prepared_code.specs.declared.versions.Catching.{Catching}
+use Rattle.prepared_code.specs.declared.versions.PreparedCode.{PreparedCode}
 use Rattle.prepared_code.specs.Entries.{original_version, own_number}
 use Rattle.prepared_code.specs.Tables.{Version, Versions, version_at}
 use Rattle.prepared_code.specs.Versions.{line_at, next_in}
@@ -59,9 +61,9 @@ pub record AreBare (p : Program) (v : Versions) : Type 0 where
 abbrev pub HasItsLines : Program → Versions → ℕ → Type 0
 HasItsLines p v version = (place : ℕ) → line_at v version place ≡ line_at (with_lines p v) version place
 
--- another version stands in the place of one
-pub record IsReplaced (number : ℕ) (x : Version) (old new : Versions) : Type 0 where
-  pub held : (k : ℕ) → version_at new k ≡ (if k == number then Some x else version_at old k)
+-- a version, if it is held, is prepared anew
+pub record IsReplaced (number : ℕ) (prepared : PreparedCode) (old new : Versions) : Type 0 where
+  pub held : (k : ℕ) → version_at new k ≡ (if k == number then option_map (prepared_anew prepared) (version_at old number) else version_at old k)
   pub current : new.current ≡ old.current
   pub count : length new.slots ≡ length old.slots
 

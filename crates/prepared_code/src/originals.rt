@@ -155,7 +155,7 @@ impl Originals {
             return Ok(());
         }
         let made = original_version(alloc, self.index.as_ref().program(), held.method)?;
-        self.versions.replace(version, made);
+        self.versions.replace(version, made.prepared);
         Ok(())
     }
 

@@ -1,9 +1,9 @@
 //! The code that is run, prepared: versions of methods, each with what stands at its places, and
 //! the version that each method begins in.
 
-ghost use Rattle.std.specs.Prelude.{◌≡◌, ◌≤◌, false, length, true, OnErr, OnOk, Some};
+ghost use Rattle.std.specs.Prelude.{◌≡◌, ◌≤◌, false, length, true, OnErr, OnOk};
 ghost use Rattle.std.specs.Option.{option_copied};
-ghost use Rattle.method_versions.specs.Tables.{IsFirst, is_superseded_in, method_in};
+ghost use Rattle.method_versions.specs.Tables.{IsFirst, is_superseded_in};
 ghost use Rattle.prepared_code.specs.Making.{HasItsLines, IsReplaced, has_lines, with_lines};
 ghost use Rattle.prepared_code.specs.Tables.{Adds, AreAllCurrent, AreOfMethods, Releases, table_seen, version_at};
 ghost use Rattle.prepared_code.specs.Versions.{current_of, first_of, line_at, line_in, mark_of};
@@ -82,12 +82,11 @@ impl Versions {
         Ok(())
     }
 
-    /// Puts another version of the same method in the place of the one with this number.
-    pub fn replace(&mut self, number: usize, version: Version)
-        requires { method_in self.old.slots number ≡ Some version.method }
-        ensures { IsReplaced number version self.old self.new }
+    /// Replaces what is prepared of the version with this number, if there is one.
+    pub fn replace(&mut self, number: usize, prepared: PreparedCode)
+        ensures { IsReplaced number prepared self.old self.new }
     {
-        self.table.replace(number, version);
+        self.table.replace(number, prepared);
     }
 
     /// Drops each superseded version that no frame runs.

@@ -10,7 +10,7 @@ use Rattle.std.proofs.lemmas.Option.{none-some}
 use Rattle.const_pool.specs.declared.class.ClassFile.{ClassFile}
 use Rattle.const_pool.specs.declared.class.Member.{Member}
 use Rattle.frame_stack.specs.FrameLists.{PlacedFrame, pins_of}
-use Rattle.method_versions.specs.Tables.{IsFirst, current_in, held_besides, is_number, is_old, is_superseded_in, method_in}
+use Rattle.method_versions.specs.Tables.{IsFirst, current_in, held_besides, is_number, is_old, is_superseded_in, method_in, prepared_anew}
 use Rattle.jvm_model.specs.declared.event.Mark.TheVariants.{Off}
 use Rattle.jvm_model.specs.declared.program.MethodPlace.{MethodPlace}
 use Rattle.jvm_model.specs.declared.program.Program.{Program}
@@ -251,7 +251,18 @@ module _ (p : Program) where
   -- ---- a version whose lines are made
 
   module _ (number : ℕ) (x y : Version) (old new : Versions) (held : version_at old number ≡ Some x) (none : x.prepared.has_lines ≡ false) (is : y ≡ original_version p x.method)
-      (replaced : IsReplaced number y old new) where
+      (replaced : IsReplaced number y.prepared old new) where
+    -- it is of the same method
+    anew : prepared_anew y.prepared x ≡ y
+    anew =
+        ap (λ (n : ℕ). let z : Version = record { method = n; prepared = y.prepared } in z)
+        (sym (ap (λ (z : Version). z.method) is ∙ original-method p x.method))
+
+    put : (k : ℕ) → version_at new k ≡ (if k == number then Some y else version_at old k)
+    put k =
+        replaced.held k
+        ∙ ap (λ (o : Option Version). if k == number then o else version_at old k) (ap (option_map (prepared_anew y.prepared)) held ∙ ap Some anew)
+
     y-has : y.prepared.has_lines ≡ true
     y-has = ap (λ (z : Version). z.prepared.has_lines) is ∙ original-has-lines p x.method
 
@@ -266,18 +277,18 @@ module _ (p : Program) where
         ap (λ (xs : List (Option Version)). let u : Versions = record { slots = xs; current = new.current } in u)
         (ext_get_or None (with_lines p new).slots (with_lines p old).slots
         (length-map new.slots (option_map (made_by p)) ∙ (replaced.count ∙ sym (length-map old.slots (option_map (made_by p)))))
-        (λ k lt. at-made new k ∙ (ap (option_map (made_by p)) (replaced.held k) ∙ (replaced-slot k (k == number) refl ∙ sym (at-made old k)))))
+        (λ k lt. at-made new k ∙ (ap (option_map (made_by p)) (put k) ∙ (replaced-slot k (k == number) refl ∙ sym (at-made old k)))))
         ∙ ap (λ (ks : List ℕ). let u : Versions = record { slots = (with_lines p old).slots; current = ks } in u) replaced.current
 
     pub replaced-lines : has_lines new number ≡ true
-    replaced-lines = ap (λ (o : Option Version). option_map_or (λ z. z.prepared.has_lines) o true) (replaced.held number) ∙ by (number == number) (eq-eqb number number refl) where
+    replaced-lines = ap (λ (o : Option Version). option_map_or (λ z. z.prepared.has_lines) o true) (put number) ∙ by (number == number) (eq-eqb number number refl) where
       by : (b : Bool) → b ≡ true → option_map_or (λ (z : Version). z.prepared.has_lines) (if b then Some y else version_at old number) true ≡ true
       by true e = y-has
       by false e = absurd cc
 
     pub replaced-bare : AreBare p old → AreBare p new
     replaced-bare bare = record {
-      each = λ k. subst (λ (o : Option Version). IfSome o (IsBare p)) (sym (replaced.held k)) (bare-either (k == number) y (version_at old k) y-has (bare.each k));
+      each = λ k. subst (λ (o : Option Version). IfSome o (IsBare p)) (sym (put k)) (bare-either (k == number) y (version_at old k) y-has (bare.each k));
     }
 
   -- ---- what is kept at first

@@ -17,7 +17,7 @@ pub returns-in-Ended-clause-played : goal.returns-in-Ended-clause-played
 returns-in-Ended-clause-played c = λ e.
     let none : c.same_ending.result ≡ None = cc in
     played c.args.line.now _ c.args.vm.now c.args.vm.now c.in-Ended.is (record {
-      holds = λ rests. sym (c.ending.ensures c.requires.ready.whole rests) ∙ c.same_ending.ensures.same none;
+      holds = λ rests. sym (c.ending.ensures c.requires.whole rests) ∙ c.same_ending.ensures.same none;
       same = refl;
     })
 
@@ -25,7 +25,7 @@ pub returns-in-Printed-clause-played : goal.returns-in-Printed-clause-played
 returns-in-Printed-clause-played c = λ e.
     let none : c.same_output.result ≡ None = cc in
     played c.args.line.now _ c.args.vm.now c.args.vm.now c.in-Printed.is (record {
-      holds = λ rests. sym (c.output.ensures c.requires.ready.whole rests) ∙ (c.same_output.ensures.same none ∙ c.as_slice-in-Printed.ensures);
+      holds = λ rests. sym (c.output.ensures c.requires.whole rests) ∙ (c.same_output.ensures.same none ∙ c.as_slice-in-Printed.ensures);
       same = refl;
     })
 
@@ -62,13 +62,13 @@ returns-in-Refused-clause-otherwise c =
 pub returns-in-Ended-clause-otherwise : goal.returns-in-Ended-clause-otherwise
 returns-in-Ended-clause-otherwise c =
     subst (λ l. IfSome c.same_ending.result (IsOtherwise c.args.vm.now l)) (sym c.in-Ended.is)
-    (ended-else c.same_ending.result c.args.vm.now _ c.ending.result (λ rests. sym (c.ending.ensures c.requires.ready.whole rests)) c.same_ending.ensures.other)
+    (ended-else c.same_ending.result c.args.vm.now _ c.ending.result (λ rests. sym (c.ending.ensures c.requires.whole rests)) c.same_ending.ensures.other)
 
 pub returns-in-Printed-clause-otherwise : goal.returns-in-Printed-clause-otherwise
 returns-in-Printed-clause-otherwise c =
     subst (λ l. IfSome c.same_output.result (IsOtherwise c.args.vm.now l)) (sym c.in-Printed.is)
     (printed-else c.same_output.result c.args.vm.now _ c.as_slice-in-Printed.result.now c.output.result.now c.as_slice-in-Printed.ensures
-    (λ rests. c.output.ensures c.requires.ready.whole rests) c.same_output.ensures.other)
+    (λ rests. c.output.ensures c.requires.whole rests) c.same_output.ensures.other)
 
 pub returns-in-Lives-clause-otherwise : goal.returns-in-Lives-clause-otherwise
 returns-in-Lives-clause-otherwise c =

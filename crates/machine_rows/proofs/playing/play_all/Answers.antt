@@ -1,14 +1,13 @@
-use Rattle.std.proofs.Common.{Ok, ap, refl, subst, sym, ◌∙◌}
+use Rattle.std.proofs.Common.{Ok, ap, refl, subst, ◌∙◌}
 use Rattle.std.specs.Option.{IfSome}
 use Rattle.machine_rows.specs.Played.{IsOtherwise, Plays}
 use Rattle.machine_rows.proofs.Plays.{fails-at, plays-all, plays-next}
-use Rattle.machine_rows.proofs.Rests.{fresh-ready, fresh-rests, rests}
+use Rattle.machine_rows.proofs.Stays.{fresh-ready}
 use Rattle.machine_rows.proofs.playing.play_all.Goals as goal
 
 pub loop-placed-init : goal.loop-placed-init
 loop-placed-init c = record {
   ready = fresh-ready c.args.vm.now c.requires;
-  rests = sym (fresh-rests c.args.vm.now c.requires);
   plays = Plays.none c.args.vm.now;
 }
 
@@ -17,9 +16,6 @@ loop-placed-preserved c =
     let none = c.in_ok-difference.was ∙ ap Ok c.in_default.is in
     record {
       ready = c.play.ensures.ready none;
-      rests = c.rests_behind-resting.ensures
-          ∙ rests c.placed-item.result.line c.loop-placed.resting c.loop-placed.vm c.play.new.vm (c.play.ensures.played none) c.loop-placed.invariant.ready
-          (c.play.ensures.ready none) c.loop-placed.invariant.rests;
       plays = plays-next c.args.lines.now c.loop-placed.placed-index c.placed-item.result c.args.vm.now c.loop-placed.vm c.play.new.vm
           c.loop-placed-test.true c.placed-item.is c.loop-placed.invariant.plays (c.play.ensures.played none);
     }

@@ -1,5 +1,4 @@
-use Rattle.std.proofs.Common.{◌≡◌, map, take}
-use Rattle.jvm_machine.specs.View.{is_resting}
+use Rattle.std.proofs.Common.{map, take}
 use Rattle.machine_rows.specs.Played.{Plays}
 use Rattle.machine_rows.specs.Ready.{IsReady}
 use Rattle.machine_rows.proofs.playing.play_all.Given as goal
@@ -7,6 +6,5 @@ use Rattle.machine_rows.proofs.playing.play_all.Given as goal
 abbrev pub invariant-loop-placed : goal.invariant-loop-placed
 invariant-loop-placed l = record {
   ready : IsReady l.vm;
-  rests : l.resting ≡ is_resting l.vm;
   plays : Plays (map (λ x. x.line) (take l.placed-index l.lines)) l.fn.vm l.vm;
 }

@@ -4,7 +4,7 @@ use Rattle.machine_rows.specs.Played.{IsOtherwise}
 use Rattle.machine_rows.proofs.Otherwise.{ran-else}
 use Rattle.machine_rows.proofs.Stays.{run-ready}
 use Rattle.machine_rows.proofs.playing.run.Goals as goal
-use Rattle.machine_rows.proofs.playing.run.Goals.{then-clock-gt-MOST_STEPS-via-then-clock-gt-MOST_STEPS, then-clock-gt-MOST_STEPS-via-else-clock-gt-MOST_STEPS+then-most-gt-MOST_STEPS, then-clock-gt-MOST_STEPS-via-else-clock-gt-MOST_STEPS+else-most-gt-MOST_STEPS+then-most-eq0, then-clock-gt-MOST_STEPS-via-else-clock-gt-MOST_STEPS+else-most-gt-MOST_STEPS+else-most-eq0+then-not-resting}
+use Rattle.machine_rows.proofs.playing.run.Goals.{then-clock-gt-MOST_STEPS-via-then-clock-gt-MOST_STEPS, then-clock-gt-MOST_STEPS-via-else-clock-gt-MOST_STEPS+then-most-gt-MOST_STEPS, then-clock-gt-MOST_STEPS-via-else-clock-gt-MOST_STEPS+else-most-gt-MOST_STEPS+then-most-eq0, then-clock-gt-MOST_STEPS-via-else-clock-gt-MOST_STEPS+else-most-gt-MOST_STEPS+else-most-eq0+then-not-is_resting}
 
 pub returns-clause-ran : goal.returns-clause-ran
 returns-clause-ran c = λ e. record {
@@ -13,7 +13,7 @@ returns-clause-ran c = λ e. record {
 }
 
 pub returns-clause-ready : goal.returns-clause-ready
-returns-clause-ready c = λ e. run-ready c.args.vm.now c.run_on-came.new.self c.args.most c.run_on-came.result c.requires.ready c.run_on-came.ensures (c.turn_compared.ensures.found e)
+returns-clause-ready c = λ e. run-ready c.args.vm.now c.run_on-came.new.self c.args.most c.run_on-came.result c.requires c.run_on-came.ensures (c.turn_compared.ensures.found e)
 
 pub returns-clause-otherwise : goal.returns-clause-otherwise
 returns-clause-otherwise c =
@@ -26,6 +26,6 @@ returns-then-clock-gt-MOST_STEPS-clause-otherwise c = IsOtherwise.not_run c.args
       | then-clock-gt-MOST_STEPS-via-then-clock-gt-MOST_STEPS w ↦ inl (omega (arith, w.if-clock-gt-MOST_STEPS.true, c.clock.ensures))
       | then-clock-gt-MOST_STEPS-via-else-clock-gt-MOST_STEPS+then-most-gt-MOST_STEPS w ↦ inr (inl (omega (arith, w.if-most-gt-MOST_STEPS.true)))
       | then-clock-gt-MOST_STEPS-via-else-clock-gt-MOST_STEPS+else-most-gt-MOST_STEPS+then-most-eq0 w ↦ inr (inr (inl (omega (arith, w.if-most-eq0.true))))
-      | then-clock-gt-MOST_STEPS-via-else-clock-gt-MOST_STEPS+else-most-gt-MOST_STEPS+else-most-eq0+then-not-resting w ↦
-          inr (inr (inr (sym c.requires.rests ∙ w.if-not-resting.true)))
+      | then-clock-gt-MOST_STEPS-via-else-clock-gt-MOST_STEPS+else-most-gt-MOST_STEPS+else-most-eq0+then-not-is_resting w ↦
+          inr (inr (inr (sym w.is_resting.ensures ∙ w.if-not-is_resting.true)))
     ])

@@ -1,5 +1,5 @@
 use Rattle.std.proofs.Common.{◌≡◌, Some, sym, subst, ap, ◌∙◌}
-use Rattle.std.specs.Option.{option_copied, option_map}
+use Rattle.std.specs.Option.{option_copied}
 use Rattle.jvm_model.specs.declared.program.Program.{Program}
 use Rattle.symbolic_references.specs.Runtimes.{linker_in}
 use Rattle.prepared_code.specs.Entries.{original_version}
@@ -8,16 +8,8 @@ use Rattle.prepared_code.specs.Originals.{AreNamesKnown, OriginalsView}
 use Rattle.prepared_code.specs.Making.{with_lines}
 use Rattle.prepared_code.specs.Prepared.{IsPrepared}
 use Rattle.prepared_code.specs.Tables.{Version, Versions, version_at}
-use Rattle.prepared_code.proofs.Tables.Made.{original-method, replaced-bare, replaced-same}
+use Rattle.prepared_code.proofs.Tables.Made.{lines-made, replaced-bare, replaced-lines, replaced-same}
 use Rattle.prepared_code.proofs.originals.Originals.make_lines.Goals as goal
-
-pub replace-requires : goal.replace-requires
-replace-requires c =
-    let p : Program = c.self.inside.index.value in
-    let x : Version = c.in-Some.held.now in
-    let there : version_at c.self.inside.versions c.args.version ≡ Some x = sym c.version_at.ensures ∙ ap option_copied c.in-Some.is in
-    let is : c.in_ok-made.made ≡ original_version p x.method = c.in_ok-made.ensures ∙ ap (λ (q : Program). original_version q x.method) (c.program.ensures.all ∙ c.as_ref.ensures) in
-    ap (option_map (λ (y : Version). y.method)) there ∙ ap Some (sym (ap (λ (y : Version). y.method) is ∙ original-method p x.method))
 
 pub invariant_of-self : goal.invariant_of-self
 invariant_of-self c =
@@ -33,6 +25,17 @@ invariant_of-self c =
       prepared = subst (λ (v : Versions). IsPrepared p v) (sym same) c.self.invariant.prepared;
       bare = replaced-bare p c.args.version x y old new there c.if-held.false is c.replace.ensures c.self.invariant.bare;
     }
+
+pub returns-clause-ready : goal.returns-clause-ready
+returns-clause-ready c =
+    let p : Program = c.self.inside.index.value in
+    let x : Version = c.in-Some.held.now in
+    let old = c.self.inside.versions in
+    let new = c.replace.new.self in
+    let y = c.in_ok-made.made in
+    let there : version_at old c.args.version ≡ Some x = sym c.version_at.ensures ∙ ap option_copied c.in-Some.is in
+    let is : y ≡ original_version p x.method = c.in_ok-made.ensures ∙ ap (λ (q : Program). original_version q x.method) (c.program.ensures.all ∙ c.as_ref.ensures) in
+    lines-made p new c.args.version (replaced-lines p c.args.version x y old new there c.if-held.false is c.replace.ensures)
 
 pub returns-clause-versions : goal.returns-clause-versions
 returns-clause-versions c =
