@@ -1,4 +1,5 @@
--- What becomes of a state, or of the parts of a machine, by what an instruction asks for (JVM Specification 2.6.4, 2.6.5, 2.10).
+-- What becomes of a state, or of the parts of a machine, by what an instruction asks for (JVM Specification 2.6.4,
+-- 2.6.5, 2.10).
 use Rattle.std.specs.Prelude.{◌≡◌, ℕ, List, [], ◌∷◌, Option, Some, None}
 use Rattle.std.specs.Option.{option_map}
 use Rattle.heap_objects.specs.declared.datum.Datum.{Datum}

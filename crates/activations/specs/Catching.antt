@@ -25,7 +25,8 @@ abbrev pub caller_target : Setup → ℕ → List PlacedFrame → Option ℕ
 caller_target w class (f ∷ g ∷ fs) = handler_for w.world class g.place ((listing_of w.versions).handlers g.version)
 caller_target w class fs = None
 
--- the caller of a frame in this place, and not that frame itself, catches objects of this class, of which nothing is told
+-- the caller of a frame in this place, and not that frame itself, catches objects of this class, of which nothing is
+-- told
 pub record CatchesBelow (w : Setup) (ms : List Initialization) (here : Here) (fs : List PlacedFrame) (class target : ℕ) : Type 0 where
   pub own : handler_for w.world class here.place ((listing_of w.versions).handlers here.version) ≡ None
   pub caller : caller_target w class fs ≡ Some target

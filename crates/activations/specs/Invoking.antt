@@ -14,8 +14,8 @@ use Rattle.prepared_code.specs.Versions.{Setup}
 abbrev pub may_begin : List PlacedFrame → Bool
 may_begin fs = nat_lt (length fs) most_live
 
--- A method is invoked on these frames with so many operands, by whether there may be one activation more, and whether they fit: it begins,
--- or is one too many, or the run ends.
+-- A method is invoked on these frames with so many operands, by whether there may be one activation more, and whether
+-- they fit: it begins, or is one too many, or the run ends.
 abbrev pub method_called : Setup → ℕ → ℕ → ℕ → ℕ → List PlacedFrame → Parts → Bool → Bool → State
 method_called w method own callee count fs p few fits =
     if fits

@@ -1,4 +1,5 @@
--- What the moves of a run do to the parts of a machine: a throw goes to a handler or ends activations, and `main` begins (JVM Specification 2.10, 5.2).
+-- What the moves of a run do to the parts of a machine: a throw goes to a handler or ends activations, and `main`
+-- begins (JVM Specification 2.10, 5.2).
 use Rattle.std.specs.Prelude.{ℕ, Bool, true, false, List, [], ◌∷◌, Some, None, nat_le, if◌then◌else◌}
 use Rattle.std.specs.Option.{option_map_or}
 use Rattle.heap_objects.specs.declared.Value.TheVariants.{Ref}

@@ -1,5 +1,5 @@
--- What the rule of an instruction which names something says of the current frame, over what it loads, and the arguments of a method that is
--- invoked (JVM Specification 5.4.3, 6.5).
+-- What the rule of an instruction which names something says of the current frame, over what it loads, and the
+-- arguments of a method that is invoked (JVM Specification 5.4.3, 6.5).
 use Rattle.std.specs.Prelude.{◌≡◌, List, ◌++◌, Some, drop, length, reverse, take}
 use Rattle.heap_objects.specs.declared.datum.Datum.{Datum}
 use Rattle.const_pool.specs.declared.descriptor.Kind.{Kind}

@@ -1,4 +1,5 @@
--- Moves over versions with probes, one at a time: what each has done, and up to which the machine makes them before it tells something.
+-- Moves over versions with probes, one at a time: what each has done, and up to which the machine makes them before it
+-- tells something.
 use Rattle.std.specs.Prelude.{ℕ, suc, Bool, true, false, List, [], ◌∷◌, map, drop, length, is_some, Option, Some, None, ◌==◌}
 use Rattle.std.specs.Option.{option_map_or}
 use Rattle.frame_stack.specs.FrameLists.{PlacedFrame}

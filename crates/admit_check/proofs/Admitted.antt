@@ -1,4 +1,5 @@
--- What an admitted program is: its classes have no fault, its methods are few, its main method and its acts are those of the plan.
+-- What an admitted program is: its classes have no fault, its methods are few, its main method and its acts are those
+-- of the plan.
 use Rattle.std.proofs.Common.{◌≡◌, ℕ, ◌≤◌, Bool, true, false, List, length, Option, Some, None, Result, Ok, Err, [], refl}
 use Rattle.std.specs.Prelude.{nat_lt}
 use Rattle.std.proofs.lemmas.Bool.{ltb-false}

@@ -1,4 +1,5 @@
--- The built-in class files behind the classes of a program: where each is found, and what each needs of those before it (JVM Specification 5.3).
+-- The built-in class files behind the classes of a program: where each is found, and what each needs of those before it
+-- (JVM Specification 5.3).
 use Rattle.std.proofs.Common.{◌≡◌, ℕ, zero, suc, ◌+◌, ◌<◌, Bool, true, false, not, List, [], ◌∷◌, ◌++◌, length, position, slice_get, get_or, cond, Option, Some, None, refl, sym, ap, ◌∙◌, zero-add, eqb-true, arith}
 use Rattle.std.specs.Prelude.{nat_lt, ◌&&◌, ◌==◌}
 use Rattle.std.specs.List.{AllByRecursion, list_all, list_any}

@@ -1,4 +1,5 @@
--- What holds of the built-in class files together: each is found by its name, and what it names above itself stands before it.
+-- What holds of the built-in class files together: each is found by its name, and what it names above itself stands
+-- before it.
 use Rattle.std.proofs.Common.{◌≡◌, ℕ, ◌+◌, Bool, true, false, List, [], ◌∷◌, length, position, slice_get, refl}
 use Rattle.std.specs.Prelude.{is_some, nat_lt, not, ◌&&◌, ◌==◌}
 use Rattle.std.specs.Bool.{beq}

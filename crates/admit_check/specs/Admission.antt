@@ -98,9 +98,9 @@ admission classes built_in main plan =
 unfoldable pub admission_of : List ClassFile → List ℕ → Plan → Result Program AdmitError
 admission_of classes main plan = admission classes built_in_files main plan
 
--- An admitted program of these classes with the main method of the class of this name: it is sound; its own classes have no fault, and the
--- built-in ones follow the rules too; each of its classes can be read and rewritten, whichever of its methods with Code are marked, and
--- its tables are moved there.
+-- An admitted program of these classes with the main method of the class of this name: it is sound; its own classes
+-- have no fault, and the built-in ones follow the rules too; each of its classes can be read and rewritten, whichever
+-- of its methods with Code are marked, and its tables are moved there.
 pub record IsAdmittedProgram (classes : List ClassFile) (name : List ℕ) (p : Program) : Type 0 where
   pub sound : IsSoundProgram classes name p
   pub fine : classes_fault [] classes ≡ None

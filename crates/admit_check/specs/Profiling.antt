@@ -1,5 +1,6 @@
--- Classes of which each method with Code can be rewritten with probes: admission asks it of all of them at once. It then holds of every
--- choice of such methods and of every number from which they are counted (inject_events, clause `profilable` of `instrument`).
+-- Classes of which each method with Code can be rewritten with probes: admission asks it of all of them at once. It
+-- then holds of every choice of such methods and of every number from which they are counted (inject_events, clause
+-- `profilable` of `instrument`).
 use Rattle.std.specs.Prelude.{◌≡◌, ℕ, Option, Some, slice_get}
 use Rattle.std.specs.Option.{option_map}
 use Rattle.const_pool.specs.declared.class.ClassFile.{ClassFile}

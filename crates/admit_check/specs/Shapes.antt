@@ -1,4 +1,5 @@
--- What is asked of a class before its code is read: its name, and its shape (JVM Specification 4.1, 4.5, 4.6, 4.7.2, 4.7.3).
+-- What is asked of a class before its code is read: its name, and its shape (JVM Specification 4.1, 4.5, 4.6, 4.7.2,
+-- 4.7.3).
 use Rattle.std.specs.Prelude.{ℕ, Bool, true, false, not, List, [], ◌∷◌, ◌++◌, length, Option, Some, codes, count_by, nat_lt, ◌==◌, ◌&&◌, ◌||◌, if◌then◌else◌}
 use Rattle.std.specs.Option.{option_map_or}
 use Rattle.std.specs.List.{list_any}

@@ -1,5 +1,5 @@
--- Which rules of admission a built-in class follows: those of its shape, but that java/lang/Object has no superclass, those of its codes, of
--- floats, and of what can be rewritten.
+-- Which rules of admission a built-in class follows: those of its shape, but that java/lang/Object has no superclass,
+-- those of its codes, of floats, and of what can be rewritten.
 use Rattle.std.specs.Prelude.{◌≡◌, ℕ, false, None, codes}
 use Rattle.std.specs.List.{list_any}
 use Rattle.const_pool.specs.declared.class.ClassFile.{ClassFile}

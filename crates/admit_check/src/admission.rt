@@ -79,9 +79,9 @@ fn check_class(
     check_code(alloc, number, class)
 }
 
-/// Whether admission takes a class where it is the first one, or its first fault: of its name, its shape, its codes, its floating
-/// point, or of a method that can't be rewritten with probes. What rewrites classes takes each class that is admitted, and refuses
-/// no method of it.
+/// Whether admission takes a class where it is the first one, or its first fault: of its name, its shape, its codes,
+/// its floating point, or of a method that can't be rewritten with probes. What rewrites classes takes each class that
+/// is admitted, and refuses no method of it.
 pub fn admit_class(alloc: Global, class: &ClassFile) -> Result<(), AdmitError>
     requires { IsClassFile class.now }
     ensures admitted { Passes result (class_fault [] 0 class.now) }
@@ -233,12 +233,12 @@ fn admit_over(
     }
 }
 
-/// The program of these classes, with the built-in ones behind them, or its first fault. The classes are taken in order, and of
-/// each its name, its shape, its codes, its floating point and then what can't be rewritten with probes; behind the last class come
-/// the number of methods, the main method in the class named `main`, with slashes, and the roots of the plan's actions. Each class
-/// is read once, and rewritten once where a code of it is long; each action looks through the classes and the methods. Neither the
-/// plan's main class nor its budget is looked at. What the program has is all that the machine, the linker, the report and what
-/// rewrites classes ask of it.
+/// The program of these classes, with the built-in ones behind them, or its first fault. The classes are taken in
+/// order, and of each its name, its shape, its codes, its floating point and then what can't be rewritten with probes;
+/// behind the last class come the number of methods, the main method in the class named `main`, with slashes, and the
+/// roots of the plan's actions. Each class is read once, and rewritten once where a code of it is long; each action
+/// looks through the classes and the methods. Neither the plan's main class nor its budget is looked at. What the
+/// program has is all that the machine, the linker, the report and what rewrites classes ask of it.
 pub fn admit(
     alloc: Global,
     classes: Seq<ClassFile>,

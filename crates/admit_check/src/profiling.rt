@@ -34,8 +34,8 @@ fn all_plain(alloc: Global, class: &ClassFile) -> Result<Seq<Mark>, NoMemory>
     Ok(marks)
 }
 
-/// The fault of the first method that cannot be rewritten where all methods with Code are. Where one of them is long, what they become is made
-/// and given up: the size of each table is known only then.
+/// The fault of the first method that cannot be rewritten where all methods with Code are. Where one of them is long,
+/// what they become is made and given up: the size of each table is known only then.
 pub(crate) fn profiling_fault(
     alloc: Global,
     number: u32,

@@ -1,5 +1,5 @@
-//! Members of a class that agree in name and descriptor (JVM Specification 4.5, 4.6): each is compared with those before it where they are few, and
-//! found by hashing where they are many.
+//! Members of a class that agree in name and descriptor (JVM Specification 4.5, 4.6): each is compared with those
+//! before it where they are few, and found by hashing where they are many.
 
 ghost use Rattle.std.specs.Prelude.{◌≡◌, OnOk, IfOk};
 ghost use Rattle.std.specs.List.{list_any};

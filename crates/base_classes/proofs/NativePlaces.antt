@@ -1,4 +1,5 @@
--- The first place of a reference among the native methods is the one that is found in its class: no two classes have the same name.
+-- The first place of a reference among the native methods is the one that is found in its class: no two classes have
+-- the same name.
 use Rattle.std.proofs.Common.{◌≡◌, ◌≢◌, ℕ, zero, suc, ◌+◌, Bool, true, false, cond, List, [], ◌∷◌, ◌++◌, map, filter, length, Option, Some, None, slice_get, refl, sym, ap, ◌∙◌, arith}
 use Rattle.std.specs.List.{flat_map, position_from}
 use Rattle.std.specs.Str.{bytes_eq}

@@ -1,4 +1,5 @@
--- What a class file declares, with its indices followed to the texts that they name (JVM Specification 4.1, 4.5 to 4.7).
+-- What a class file declares, with its indices followed to the texts that they name (JVM Specification 4.1, 4.5 to
+-- 4.7).
 use Rattle.std.specs.Prelude.{ℕ, List, Option}
 use Rattle.const_pool.specs.References.{Reference}
 

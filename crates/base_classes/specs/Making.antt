@@ -1,5 +1,5 @@
--- The class file that is made of a declaration. Its pool has an entry for each use, in the order of the class file: first
--- the parts of an entry, then the entry.
+-- The class file that is made of a declaration. Its pool has an entry for each use, in the order of the class file:
+-- first the parts of an entry, then the entry.
 use Rattle.std.specs.Prelude.{◌≡◌, ℕ, ◌-◌, ◌%◌, List, [], ◌∷◌, ◌++◌, length, Option, Some, None, Result, IfOk, codes, Bool, nat_lt, ◌&&◌}
 use Rattle.std.specs.Int.{w16, to_be_bytes}
 use Rattle.jf_bytes.specs.declared.error.NoMemory.{NoMemory}

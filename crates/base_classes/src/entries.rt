@@ -1,5 +1,5 @@
-//! Making entries of a constant pool (JVM Specification 4.4): each text, class and member that is named gets entries of its
-//! own, at the pool's end.
+//! Making entries of a constant pool (JVM Specification 4.4): each text, class and member that is named gets entries of
+//! its own, at the pool's end.
 
 ghost use Rattle.base_classes.specs.Making.{entry_added, text_added, string_added, class_added, name_type_added, reference_added};
 ghost use Rattle.class_making.specs.Making.{GivesEntry};

@@ -1,5 +1,5 @@
-//! The built-in classes: the class files that a program finds beside its own, and the numbers of their native methods. One
-//! table has a row for each class and each member, in an order that the numbers of classes go by.
+//! The built-in classes: the class files that a program finds beside its own, and the numbers of their native methods.
+//! One table has a row for each class and each member, in an order that the numbers of classes go by.
 #![tactic(auto)]
 
 ghost use Rattle.std.specs.Prelude.{◌≡◌, ◌++◌, [], IfOk, IsTrue, OnOk, map};
@@ -67,8 +67,8 @@ fn make_all(alloc: Global) -> Result<Vec<ClassFile>, NoMemory>
     Ok(classes)
 }
 
-/// The built-in classes in their order, as class files of version 49.0. The order of their pools' entries is this crate's
-/// own. What admits a program calls it, and puts them behind the program's classes.
+/// The built-in classes in their order, as class files of version 49.0. The order of their pools' entries is this
+/// crate's own. What admits a program calls it, and puts them behind the program's classes.
 pub fn built_in(alloc: Global) -> Result<Vec<ClassFile>, NoMemory>
     ensures made { IfOk result (λ classes. classes.items ≡ built_in_files) }
     ensures declared { IfOk result (λ classes.

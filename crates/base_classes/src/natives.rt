@@ -1,5 +1,5 @@
-//! The numbers of the native methods: they are counted from 0, through the classes in their order and through the methods of
-//! each in its order.
+//! The numbers of the native methods: they are counted from 0, through the classes in their order and through the
+//! methods of each in its order.
 
 ghost use Rattle.std.specs.Prelude.{◌≡◌, ◌≢◌, ◌<◌, ◌+◌, ◌^◌, ℕ, Some, filter, length, map, slice_get, IfNone, IfSome};
 ghost use Rattle.std.specs.List.{position_from};
@@ -67,7 +67,8 @@ fn number_among(
     None
 }
 
-/// The number of a native method of the built-in classes; none where they have no such native method. It takes no memory.
+/// The number of a native method of the built-in classes; none where they have no such native method. It takes no
+/// memory.
 pub fn native_of(class: &Text16, name: &Text16, descriptor: &Text16) -> Option<u16>
     ensures found { IfSome result (λ n.
         slice_get native_methods n ≡ Some (method_named class.now name.now descriptor.now)) }

@@ -1,5 +1,5 @@
-//! The rows of the table of built-in classes: what a class file declares, by names in place of indices (JVM Specification
-//! 4.1, 4.5 to 4.7).
+//! The rows of the table of built-in classes: what a class file declares, by names in place of indices (JVM
+//! Specification 4.1, 4.5 to 4.7).
 
 /// A field or a method, as an instruction names it (4.4.2).
 #[derive(Clone, Copy)]

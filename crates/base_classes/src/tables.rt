@@ -1,5 +1,5 @@
-//! The table of the built-in classes, in their order. A row of a member reads `[flags name descriptor]`, and one with code
-//! has that behind. A method has the flag native, the flag abstract or a code.
+//! The table of the built-in classes, in their order. A row of a member reads `[flags name descriptor]`, and one with
+//! code has that behind. A method has the flag native, the flag abstract or a code.
 
 ghost use Rattle.std.specs.Prelude.{◌≡◌, map, slice_get};
 ghost use Rattle.std.specs.Option.{option_map};

@@ -1,5 +1,5 @@
--- What is kept of the code of methods that were entered: the instructions that can begin methods, and by the class that an instruction
--- names where it stands.
+-- What is kept of the code of methods that were entered: the instructions that can begin methods, and by the class that
+-- an instruction names where it stands.
 use Rattle.std.specs.Prelude.{◌≡◌, ◌+◌, ℕ, Bool, true, false, List, [], ◌∷◌, ◌++◌, length, flat_map, Option, Some, slice_get, ◌==◌, ◌&&◌, if◌then◌else◌}
 use Rattle.std.specs.List.{list_any}
 use Rattle.std.specs.Option.{option_and_then, option_flatten, option_map_or}

@@ -1,4 +1,5 @@
--- What a revelation keeps of a run: what is selected, entered and loaded, the targets of what is entered, and the marks that were shown.
+-- What a revelation keeps of a run: what is selected, entered and loaded, the targets of what is entered, and the marks
+-- that were shown.
 use Rattle.std.specs.Prelude.{◌≡◌, ◌+◌, ℕ, Bool, true, false, List, [], ◌∷◌, ◌++◌, length, is_some, slice_get, slice_set, unwrap_or, if◌then◌else◌, Option, Some, None}
 use Rattle.std.specs.List.{AllByRecursion}
 use Rattle.std.specs.Option.{option_and_then, option_map_or}
@@ -74,8 +75,8 @@ with_marks p r (m ∷ rest) shown = with_marks p r rest (slice_set shown m (mark
 
 -- ---- what holds of it
 
--- What is kept of methods, classes and code is of this program. A flag means entered; what is entered was read, its class is loaded,
--- and the classes that its calls name are kept.
+-- What is kept of methods, classes and code is of this program. A flag means entered; what is entered was read, its
+-- class is loaded, and the classes that its calls name are kept.
 pub record IsKept (p : Program) (r : Reveal) : Type 0 where
   pub fit : IsFit p
   pub short : AllByRecursion HasShortCodes p.classes
@@ -91,7 +92,8 @@ pub record IsKept (p : Program) (r : Reveal) : Type 0 where
   pub named : AreHanded p r.lineage.loaded r.named
   pub called : (m : ℕ) → is_among m r.entered ≡ true → HasCalled p r.named m
 
--- So it is, and the targets are those of what is entered over what is loaded. A method that is not stale was shown with its mark.
+-- So it is, and the targets are those of what is entered over what is loaded. A method that is not stale was shown with
+-- its mark.
 pub record IsRevelation (p : Program) (r : Reveal) : Type 0 where
   pub kept : IsKept p r
   pub targets : (m : ℕ) → is_among m r.targets ≡ is_target p (operations_of p) r.lineage.loaded r.entered m
@@ -104,8 +106,8 @@ pub record IsAhead (l : LinkerView) (r : Reveal) : Type 0 where
 
 -- ---- what a call leaves that stops
 
--- The book, the lineage and the classes that calls name are those of the program, and more was read, named and loaded; there are more
--- targets, and more that is stale.
+-- The book, the lineage and the classes that calls name are those of the program, and more was read, named and loaded;
+-- there are more targets, and more that is stale.
 pub record IsGrown (p : Program) (old new : Reveal) : Type 0 where
   pub lineage : IsLineage p new.lineage
   pub book : IsBookOf p new.book

@@ -1,4 +1,5 @@
-//! The instructions of methods that were entered, which are read once, and where they stand by the classes that they name.
+//! The instructions of methods that were entered, which are read once, and where they stand by the classes that they
+//! name.
 
 ghost use Rattle.std.specs.Prelude.{◌≡◌, ◌<◌, [], if◌then◌else◌, is_ok, is_some, length, replicate, true, IfOk, OnOk, None, ℕ};
 ghost use Rattle.std.specs.List.{AllByRecursion};
@@ -19,8 +20,8 @@ use member_selection::resolved_name;
 use possible_callees::{add_item, no_lists, symbolic_references_of};
 use std::alloc::Global;
 
-/// What was read of methods, by their numbers; and by the class that an instruction names all instructions that name it, and those
-/// that select by their receiver's class. Where memory ran out there are more of them than were read.
+/// What was read of methods, by their numbers; and by the class that an instruction names all instructions that name
+/// it, and those that select by their receiver's class. Where memory ran out there are more of them than were read.
 #[derive(Drop)]
 pub struct Book {
     pub codes: Seq<Option<Seq<SymbolicReference>>>,

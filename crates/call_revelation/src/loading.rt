@@ -56,7 +56,8 @@ impl Reveal {
 
     // ---- calls of classes above the new one
 
-    /// What an instruction begins on the new class, where it stands in an entered method and is a call that names this class.
+    /// What an instruction begins on the new class, where it stands in an entered method and is a call that names this
+    /// class.
     fn add_call(
         &self,
         linker: &Linker,

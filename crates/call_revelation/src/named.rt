@@ -18,7 +18,8 @@ use jvm_model::SymbolicReference;
 use possible_callees::{Lineage, no_lists, note, put_list};
 use std::alloc::Global;
 
-/// The classes that calls name, and for each loaded class those of them at or above it. Where memory ran out a list has more of them.
+/// The classes that calls name, and for each loaded class those of them at or above it. Where memory ran out a list has
+/// more of them.
 #[derive(Drop)]
 pub struct Named {
     pub classes: Order,

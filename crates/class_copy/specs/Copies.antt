@@ -21,9 +21,9 @@ pub record PutsFile (Way : Option (List ℕ) → Option (List ℕ) → List ℕ 
   pub file : IsFileTold told name bytes
   pub put : Way old new bytes
 
--- What each answer says of the file of that name, where the files tell their contents: it is there and is a class file, or it is
--- there and has that first fault. No file is both, and no file has two first faults, so a class file is copied or not put, and
--- any other file is not read. The two other answers say nothing of it.
+-- What each answer says of the file of that name, where the files tell their contents: it is there and is a class file,
+-- or it is there and has that first fault. No file is both, and no file has two first faults, so a class file is copied
+-- or not put, and any other file is not read. The two other answers say nothing of it.
 abbrev pub IsAnswer : {A : Type 0} → Option Told → List ℕ → Result A CopyError → Type 0
 IsAnswer told name (Ok x) = HasTold told name IsSomeFile
 IsAnswer told name (Err NotPut) = HasTold told name IsSomeFile

@@ -79,7 +79,8 @@ fn copy_of<F: Files>(alloc: Global, name: &str, files: &mut F) -> Result<Vec<u8>
     }
 }
 
-/// Puts a copy of the class file with this name to `out`. Nothing is put of any other file, nor where a call before the put fails.
+/// Puts a copy of the class file with this name to `out`. Nothing is put of any other file, nor where a call before the
+/// put fails.
 pub fn copy_file<F: Files, O: Sink>(
     alloc: Global,
     name: &str,

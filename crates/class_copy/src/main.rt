@@ -1,5 +1,5 @@
-//! Copies class files through the reader and the writer: `class_copy FILE..` puts the bytes of each to standard output. It shows
-//! on real files that nothing of a class file is lost between its bytes and its value.
+//! Copies class files through the reader and the writer: `class_copy FILE..` puts the bytes of each to standard output.
+//! It shows on real files that nothing of a class file is lost between its bytes and its value.
 #![tactic(auto)]
 
 mod copying;

@@ -145,8 +145,8 @@ fn put_image<O: Sink>(out: &mut O, image: &[u8]) -> Result<(), ImageError>
     }
 }
 
-/// Puts the image of the class file with this name to `out`, for the number of its first method with Code and the marks that two
-/// words say. Nothing is put where a call before the put fails.
+/// Puts the image of the class file with this name to `out`, for the number of its first method with Code and the marks
+/// that two words say. Nothing is put where a call before the put fails.
 pub fn image_file<F: Files, O: Sink>(
     alloc: Global,
     name: &str,

@@ -1,6 +1,6 @@
-//! Rewrites class files: `class_image FILE FIRST MARKS ..` puts the image of each to standard output. FIRST is the number of the
-//! class's first method with Code, and MARKS has one letter a method: O for one that stays or has no Code, P for a plain one, R for a root. It
-//! shows on real files what rewriting makes.
+//! Rewrites class files: `class_image FILE FIRST MARKS ..` puts the image of each to standard output. FIRST is the
+//! number of the class's first method with Code, and MARKS has one letter a method: O for one that stays or has no
+//! Code, P for a plain one, R for a root. It shows on real files what rewriting makes.
 #![tactic(auto)]
 
 mod imaging;

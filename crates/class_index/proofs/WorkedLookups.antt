@@ -1,4 +1,5 @@
--- Worked look-ups over small class lists (JVM Specification 5.4.3, 5.4.5): subtypes, fields, methods, selection, layouts.
+-- Worked look-ups over small class lists (JVM Specification 5.4.3, 5.4.5): subtypes, fields, methods, selection,
+-- layouts.
 use Rattle.std.specs.Prelude.{◌≡◌, ℕ, true, false, List, [], ◌∷◌, Some, None, codes, refl}
 use Rattle.const_pool.specs.declared.descriptor.Kind.TheVariants.{Int, Long, Ref}
 use Rattle.const_pool.specs.References.{NameAndType}

@@ -1,5 +1,5 @@
-//! The classes of a program by their names, and the members of each class by name and descriptor (JVM Specification 5.3, 5.4.3): by
-//! tables that are made once.
+//! The classes of a program by their names, and the members of each class by name and descriptor (JVM Specification
+//! 5.3, 5.4.3): by tables that are made once.
 #![tactic(auto)]
 
 mod fields;

@@ -1,5 +1,5 @@
-//! The numbers of classes and of kinds (JVM Specification 4.4.1): the program's own classes stand first, the built-in ones behind
-//! them; a kind has dimensions and a base, and a base that is no primitive type a class.
+//! The numbers of classes and of kinds (JVM Specification 4.4.1): the program's own classes stand first, the built-in
+//! ones behind them; a kind has dimensions and a base, and a base that is no primitive type a class.
 
 ghost use Rattle.std.specs.Prelude.{◌≡◌, ◌≤◌, ◌<◌, ◌+◌, ◌^◌, length};
 ghost use Rattle.std.specs.Option.{option_copied};

@@ -9,8 +9,8 @@ use jf_bytes::NoMemory;
 use std::alloc::Global;
 use std::marker::Model;
 
-/// Positions of classes in the order in which they came, each once. Whether one is among them is one look-up. A clause sees
-/// their list.
+/// Positions of classes in the order in which they came, each once. Whether one is among them is one look-up. A clause
+/// sees their list.
 #[derive(Drop)]
 pub struct Order {
     classes: IndexSet<u32>,

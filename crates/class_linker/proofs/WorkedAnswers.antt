@@ -1,5 +1,5 @@
--- Worked answers of loads over small class lists: each way to answer. No class stands before the built-in ones here, so a class's
--- kind is 16 and its position.
+-- Worked answers of loads over small class lists: each way to answer. No class stands before the built-in ones here, so
+-- a class's kind is 16 and its position.
 use Rattle.std.specs.Prelude.{◌≡◌, ℕ, List, [], ◌∷◌, Some, None, codes, refl}
 use Rattle.class_index.proofs.WorkedClasses.{class_shape, interface_shape, object, program_of, root_class}
 use Rattle.class_linker.specs.Linkers.{LinkerView, load_answer}

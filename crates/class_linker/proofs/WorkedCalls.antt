@@ -12,7 +12,8 @@ method access name = item access name (codes "()I")
 abbrev initializer : Item
 initializer = item 1 (codes "<init>") (codes "()V")
 
--- C extends B, B extends A; D extends A and implements I. A's w is abstract, its x private and its s hidden by a static one of B, and B has an x of its own.
+-- C extends B, B extends A; D extends A and implements I. A's w is abstract, its x private and its s hidden by a static
+-- one of B, and B has an x of its own.
 abbrev p : Program
 p = program_of (
     with_methods (initializer ∷ []) root_class

@@ -1,4 +1,5 @@
--- What the linker keeps of a class that was loaded: the walks over its supertypes, made of those of its direct supertypes.
+-- What the linker keeps of a class that was loaded: the walks over its supertypes, made of those of its direct
+-- supertypes.
 use Rattle.std.specs.Prelude.{◌≡◌, ℕ, ◌≤◌, Bool, true, List, [], ◌∷◌, ◌++◌, length, Option, Some, count_by, flat_map, is_some, slice_get, if◌then◌else◌}
 use Rattle.std.specs.List.{list_all}
 use Rattle.std.specs.Option.{option_and_then, option_map_or}

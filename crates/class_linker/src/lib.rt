@@ -1,5 +1,5 @@
-//! Loading, subtypes, resolution, selection and layouts of a program's classes (JVM Specification 5.3, 5.4): the definitions of
-//! jvm_model by tables that are made once.
+//! Loading, subtypes, resolution, selection and layouts of a program's classes (JVM Specification 5.3, 5.4): the
+//! definitions of jvm_model by tables that are made once.
 #![tactic(auto)]
 
 mod answers;

@@ -31,8 +31,8 @@ use std::alloc::Global;
 use std::marker::Model;
 use std::rc::Rc;
 
-/// A program's classes, and which of them are loaded, in order. A clause sees these two. Classes are named by their positions,
-/// for an array by that of java/lang/Object. Every call but `new` and `load` takes no memory.
+/// A program's classes, and which of them are loaded, in order. A clause sees these two. Classes are named by their
+/// positions, for an array by that of java/lang/Object. Every call but `new` and `load` takes no memory.
 #[derive(Drop)]
 pub struct Linker {
     alloc: Global,
@@ -114,8 +114,8 @@ impl Linker {
         self.state.loaded.has(class)
     }
 
-    /// Loads the class of this name with what it needs (5.3), or the class of an array's elements. After `NoMemory` nothing is
-    /// loaded that was not.
+    /// Loads the class of this name with what it needs (5.3), or the class of an array's elements. After `NoMemory`
+    /// nothing is loaded that was not.
     pub fn load(&mut self, name: &Text16) -> Loaded
         ensures answer { IsAnswer result (load_answer self.old name.now) }
         ensures loaded { self.new ≡ loaded_by result name.now self.old }
@@ -206,10 +206,10 @@ impl Linker {
         self.classes().resolved_method(class, interface, &wanted)
     }
 
-    /// The method that an object of the receiver's class has for a method of a class: by class and position. With `interface` it is
-    /// the nearest instance method of the same name and descriptor, as invokeinterface takes it; else the nearest one that is the
-    /// method or overrides it, as invokevirtual takes it. None where there is none or it is abstract. It looks into each superclass
-    /// of the receiver once, and goes through supertypes once at most.
+    /// The method that an object of the receiver's class has for a method of a class: by class and position. With
+    /// `interface` it is the nearest instance method of the same name and descriptor, as invokeinterface takes it; else
+    /// the nearest one that is the method or overrides it, as invokevirtual takes it. None where there is none or it is
+    /// abstract. It looks into each superclass of the receiver once, and goes through supertypes once at most.
     pub fn select(
         &self,
         receiver: u32,
@@ -226,10 +226,11 @@ impl Linker {
         Some((found.class, found.position))
     }
 
-    /// The method that invokespecial in a method of the caller invokes for a resolved one; methods are named by class and position.
-    /// A method that a proper superclass of the caller declares and that is no instance initialization method is sought again, by its
-    /// name and descriptor alone, among instance methods from the caller's direct superclass upwards. Every other one is taken as it
-    /// is. None where there is none or it is abstract. ACC_SUPER is taken as set.
+    /// The method that invokespecial in a method of the caller invokes for a resolved one; methods are named by class
+    /// and position. A method that a proper superclass of the caller declares and that is no instance initialization
+    /// method is sought again, by its name and descriptor alone, among instance methods from the caller's direct
+    /// superclass upwards. Every other one is taken as it is. None where there is none or it is abstract. ACC_SUPER is
+    /// taken as set.
     pub fn special(&self, caller: u32, class: u32, position: u16) -> Option<(u32, u16)>
         requires { IsLoaded self.now caller }
         ensures { option_map place_view result
@@ -270,7 +271,8 @@ impl Linker {
         self.classes().overrides(m1, m2)
     }
 
-    /// How many slots of its objects the fields of a class's superclasses take, where a loaded class is the class or inherits from it.
+    /// How many slots of its objects the fields of a class's superclasses take, where a loaded class is the class or
+    /// inherits from it.
     pub fn slots_above(&self, lower: u32, class: u32) -> usize
         requires loaded { IsLoaded self.now lower }
         requires extends { is_among class (superclasses self.now.program lower) ≡ true }

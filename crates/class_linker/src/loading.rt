@@ -17,8 +17,8 @@ use const_pool::ClassFile;
 use jf_bytes::{NoMemory, Seq, Text16};
 use std::alloc::Global;
 
-/// What stops loading: a name that is no class of the program, a class that is its own supertype, and a superclass that is an
-/// interface or a superinterface that is none.
+/// What stops loading: a name that is no class of the program, a class that is its own supertype, and a superclass that
+/// is an interface or a superinterface that is none.
 #[derive(Drop)]
 pub enum Fault {
     NoClass(Text16),
@@ -54,7 +54,8 @@ pub enum Begun<'a> {
     Class(Opened<'a>),
 }
 
-/// The rows of the classes, and which are loaded, in order. A row may stay when its class could not be loaded after all.
+/// The rows of the classes, and which are loaded, in order. A row may stay when its class could not be loaded after
+/// all.
 #[derive(Drop)]
 pub struct State {
     pub rows: Seq<Option<LoadedClass>>,

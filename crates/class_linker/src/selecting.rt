@@ -1,4 +1,5 @@
-//! Which method an object's class has for a resolved one (JVM Specification chapter 6, invokevirtual and invokeinterface).
+//! Which method an object's class has for a resolved one (JVM Specification chapter 6, invokevirtual and
+//! invokeinterface).
 
 ghost use Rattle.std.specs.Prelude.{◌≡◌, false, true};
 ghost use Rattle.std.specs.Option.{option_map};

@@ -1,5 +1,5 @@
-//! What those who make class files have in common: indices, ASCII texts, the bytes of an instruction and a method's Code attribute
-//! (JVM Specification 4.4, 4.7.3).
+//! What those who make class files have in common: indices, ASCII texts, the bytes of an instruction and a method's
+//! Code attribute (JVM Specification 4.4, 4.7.3).
 #![tactic(auto)]
 
 ghost use Rattle.std.specs.Prelude.{◌≡◌, ◌++◌, ◌∷◌, OnOk, IfOk};

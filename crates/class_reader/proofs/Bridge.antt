@@ -1,5 +1,5 @@
--- The two descriptions of the class file format say the same of well-formed files: the formats of this crate, which tell faults
--- too, and the bytes of a class in const_pool.
+-- The two descriptions of the class file format say the same of well-formed files: the formats of this crate, which
+-- tell faults too, and the bytes of a class in const_pool.
 use Rattle.std.proofs.Common.{◌≡◌, ℕ, ◌≤◌, ◌⊎◌, ◌&&◌, ◌==◌, true, nat_le, List, ◌++◌, refl, sym, ap, subst, ◌∙◌, arith}
 use Rattle.std.specs.List.{AllByRecursion}
 use Rattle.std.proofs.lemmas.Bool.{and_parts, and_from, eqb-true, leb-true, le-leb}

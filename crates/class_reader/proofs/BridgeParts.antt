@@ -1,5 +1,5 @@
--- What a format spells, said by a function: its texts are the bytes of the values that fit. Single items, items one after the
--- other, and contents with their length.
+-- What a format spells, said by a function: its texts are the bytes of the values that fit. Single items, items one
+-- after the other, and contents with their length.
 use Rattle.std.proofs.Common.{◌≡◌, ℕ, zero, suc, ◌*◌, ◌^◌, ◌<◌, Bool, true, false, List, [], ◌∷◌, ◌++◌, length, flat_map, refl, sym, ap, subst, ◌∙◌, ◌⊎◌, inl, inr, append-nil, arith}
 use Rattle.std.specs.List.{AllByRecursion}
 use Rattle.std.specs.Int.{Width, w16, w32, byte_len, to_be_bytes}

@@ -1,5 +1,5 @@
--- The class file format (JVM Specification 4) as a reader meets it: item by item in its order, each with the fault that comes
--- where it is not well formed.
+-- The class file format (JVM Specification 4) as a reader meets it: item by item in its order, each with the fault that
+-- comes where it is not well formed.
 use Rattle.std.specs.Prelude.{ℕ, zero, suc, ◌+◌, ◌-◌, Bool, true, false, not, ◌&&◌, ◌||◌, List, [], ◌∷◌, Option, Some, None, nat_lt, nat_le, is_none, unwrap_or, slice_get, ◌==◌, if◌then◌else◌}
 use Rattle.std.specs.Int.{w8, w16, w32, w64, cast_signed}
 use Rattle.std.specs.Option.{option_map_or}
@@ -67,8 +67,8 @@ contents tag.NameType = pair NameType
 abbrev pub entry : Format Const
 entry = in_turn (value_converted (number w8) tag_of (λ at n. BadTag at)) contents
 
--- The entries of so many indices. A Long or a Double takes two, and a gap stands at the second; the last index has room for
--- none.
+-- The entries of so many indices. A Long or a Double takes two, and a gap stands at the second; the last index has room
+-- for none.
 abbrev pub entries : ℕ → Format (List Const)
 entries zero = value_made []
 entries (suc zero) = in_turn entry (λ c. value_made (c ∷ []))
@@ -88,8 +88,8 @@ fits_in pool (InterfaceMethod c n) = names is_class pool c && names is_name_type
 fits_in pool (NameType n d) = names is_utf8 pool n && names is_utf8 pool d
 fits_in pool _ = true
 
--- The lowest entry with an index that is out of range or names another kind, or that takes two indices and stands last; the
--- entries from index i on are those of the second list.
+-- The lowest entry with an index that is out of range or names another kind, or that takes two indices and stands last;
+-- the entries from index i on are those of the second list.
 abbrev pub lowest_bad_from : List Const → ℕ → List Const → Option ℕ
 lowest_bad_from pool i [] = None
 lowest_bad_from pool i (c ∷ rest) = if not (fits_in pool c) || (is_wide c && is_empty rest) then Some i else lowest_bad_from pool (i + 1) rest

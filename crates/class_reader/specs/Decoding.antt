@@ -1,5 +1,6 @@
--- Decoding modified UTF-8 from left to right (JVM Specification 4.4.7): the units of a text, or the offset of the first bad
--- byte. Only functions of this crate cite it. That these are the texts and the bad bytes of `Spelling` is proved in Decoded.
+-- Decoding modified UTF-8 from left to right (JVM Specification 4.4.7): the units of a text, or the offset of the first
+-- bad byte. Only functions of this crate cite it. That these are the texts and the bad bytes of `Spelling` is proved in
+-- Decoded.
 use Rattle.std.specs.Prelude.{ℕ, zero, suc, ◌+◌, ◌*◌, ◌%◌, Bool, ◌&&◌, List, [], ◌∷◌, length, drop, Result, Ok, Err, nat_le, ◌==◌, slice_index, if◌then◌else◌}
 use Rattle.jf_bytes.specs.ModifiedUtf8.{unit_bytes}
 
@@ -18,8 +19,8 @@ triple_unit a b c least =
     then (if is_between 128 c 191 then Ok ((a % 16) * 4096 + (b % 64) * 64 + c % 64) else Err 2)
     else Err 1
 
--- The unit that these three bytes begin with, or the offset of the first bad one. After 192 there is the one byte of U+0000,
--- and after 224 a byte of a unit from 2048 on, so that no unit has two spellings.
+-- The unit that these three bytes begin with, or the offset of the first bad one. After 192 there is the one byte of
+-- U+0000, and after 224 a byte of a unit from 2048 on, so that no unit has two spellings.
 abbrev pub first_unit : ℕ → ℕ → ℕ → Result ℕ ℕ
 first_unit a b c =
     if is_between 1 a 127 then Ok a

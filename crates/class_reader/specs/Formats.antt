@@ -62,8 +62,8 @@ IsTruncated fault = (at : ℕ) × (fault ≡ Truncated at)
 abbrev pub EndsElsewhere : {A : Type 0} → Format A → ℕ → List ℕ → Type 0
 EndsElsewhere P limit contents = ((at : ℕ) × P.Faults limit contents (Truncated at)) ⊎ HasMore P contents
 
--- A fault in contents whose length stands at the offset `at`. Where they end elsewhere than the format does, the length is at
--- fault.
+-- A fault in contents whose length stands at the offset `at`. Where they end elsewhere than the format does, the length
+-- is at fault.
 abbrev pub FaultsWithin : {A : Type 0} → Format A → ℕ → ℕ → List ℕ → ReadError → Type 0
 FaultsWithin P at limit contents fault = (EndsElsewhere P limit contents × (fault ≡ BadLength at)) ⊎ (P.Faults limit contents fault × (IsTruncated fault → ⊥))
 

@@ -1,5 +1,5 @@
--- Reading a class file from left to right: the item at the front of the bytes and the bytes after it, or the first fault.
--- Only functions of this crate cite it; what the readers owe their callers is in Files.
+-- Reading a class file from left to right: the item at the front of the bytes and the bytes after it, or the first
+-- fault. Only functions of this crate cite it; what the readers owe their callers is in Files.
 use Rattle.std.specs.Prelude.{ℕ, zero, suc, ◌+◌, ◌-◌, Bool, not, ◌&&◌, ◌||◌, List, [], ◌∷◌, ◌++◌, length, drop, Option, Some, None, Result, Ok, Err, nat_lt, nat_le, ◌==◌, if◌then◌else◌}
 use Rattle.std.specs.Int.{Width, w8, w16, w32, w64, byte_len, from_be_bytes, cast_signed}
 use Rattle.const_pool.specs.declared.pool.Const.{Const}

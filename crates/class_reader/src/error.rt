@@ -7,8 +7,8 @@ use std::alloc::{AllocError, AllocFailed};
 use thiserror::Error;
 
 /// What a reader answers in place of a class: the first fault of the bytes, read from left to right. A number is the
-/// offset of what is at fault, but for that of `BadVersion`, which is the major version, and that of `BadIndex`, which is
-/// an index into the constant pool.
+/// offset of what is at fault, but for that of `BadVersion`, which is the major version, and that of `BadIndex`, which
+/// is an index into the constant pool.
 #[derive(Clone, Copy, Debug, PartialEq, Eq, Error)]
 pub enum ReadError {
     /// There are more than `MOST_BYTES` bytes.
@@ -29,14 +29,15 @@ pub enum ReadError {
     /// The first byte with which a text is no modified UTF-8, or the text's end where it ends early.
     #[error("bad modified UTF-8 at {0}")]
     BadUtf8(usize),
-    /// The lowest entry of the constant pool that names an entry which is not there or of another kind, or which takes two
-    /// indices and stands in the last place. A constant pool count of 0 is `BadIndex(0)`.
+    /// The lowest entry of the constant pool that names an entry which is not there or of another kind, or which takes
+    /// two indices and stands in the last place. A constant pool count of 0 is `BadIndex(0)`.
     #[error("bad index in constant pool entry {0}")]
     BadIndex(u16),
     /// An index behind the constant pool names no entry of the kind that is needed.
     #[error("bad index at {0}")]
     BadRef(usize),
-    /// The length of an attribute that is parsed is not that of its contents, or the length of a code is not 1 to 65535.
+    /// The length of an attribute that is parsed is not that of its contents, or the length of a code is not 1 to
+    /// 65535.
     #[error("bad length at {0}")]
     BadLength(usize),
     /// There are bytes behind the class.

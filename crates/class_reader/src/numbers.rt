@@ -1,6 +1,6 @@
-//! Big-endian numbers and runs of bytes (JVM Specification 4). Each reader here and in the other modules is given the bytes
-//! that are left and the offset at which they end, so that it can tell the place of a fault; it answers the bytes after its
-//! item.
+//! Big-endian numbers and runs of bytes (JVM Specification 4). Each reader here and in the other modules is given the
+//! bytes that are left and the offset at which they end, so that it can tell the place of a fault; it answers the bytes
+//! after its item.
 
 ghost use Rattle.std.specs.Prelude.{◌≤◌, length, IfOk};
 ghost use Rattle.std.specs.Int.{w8, w16, w32, w64};

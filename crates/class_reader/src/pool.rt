@@ -102,7 +102,8 @@ fn fits(pool: &[Const], entry: &Const) -> bool
     }
 }
 
-/// The lowest entry with an index that is out of range or names another kind, or that takes two indices and stands last.
+/// The lowest entry with an index that is out of range or names another kind, or that takes two indices and stands
+/// last.
 fn lowest_bad_of(pool: &[Const]) -> Option<usize>
     ensures lowest { result ≡ lowest_bad pool.now }
     ensures within { IfSome result (λ index. index < length pool.now) }
@@ -116,7 +117,8 @@ fn lowest_bad_of(pool: &[Const]) -> Option<usize>
     None
 }
 
-/// The entries of the constant pool. Indices are looked at once all entries are there, since an entry may name a later one.
+/// The entries of the constant pool. Indices are looked at once all entries are there, since an entry may name a later
+/// one.
 #[tactic(auto, unfolding(crate::specs::Reading::pool_at))]
 fn sound_entries_of(
     alloc: Global,

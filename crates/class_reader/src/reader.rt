@@ -19,8 +19,8 @@ use byte_formats::place_of;
 use const_pool::{ClassFile, Const, Pool};
 use std::alloc::Global;
 
-/// The most bytes of a class file that is read: 4 MiB, a limit of this product. A caller that fetches a file asks for so many,
-/// and sees by one byte more that it is too long.
+/// The most bytes of a class file that is read: 4 MiB, a limit of this product. A caller that fetches a file asks for
+/// so many, and sees by one byte more that it is too long.
 pub const MOST_BYTES: usize = 4_194_304;
 
 /// A class of its parts.
@@ -89,10 +89,10 @@ fn file_in(alloc: Global, bytes: &[u8]) -> Result<ClassFile, ReadError>
     image_in(alloc, bytes)
 }
 
-/// Reads a class file, of `MOST_BYTES` at most (JVM Specification 4). The bytes spell the class that is given and no other,
-/// so `class_writer` gives them back from it. A refusal is the first fault from the left: what stands before its place is well
-/// formed. Code and ConstantValue are parsed where they stand, in methods and in fields; every other attribute is kept as bytes.
-/// Work and memory are in proportion to the bytes.
+/// Reads a class file, of `MOST_BYTES` at most (JVM Specification 4). The bytes spell the class that is given and no
+/// other, so `class_writer` gives them back from it. A refusal is the first fault from the left: what stands before its
+/// place is well formed. Code and ConstantValue are parsed where they stand, in methods and in fields; every other
+/// attribute is kept as bytes. Work and memory are in proportion to the bytes.
 pub fn read_class(alloc: Global, bytes: &[u8]) -> Result<ClassFile, ReadError>
     ensures found { IfOk result (λ c. IsFile bytes.now c) }
     ensures only { (c : Class) → IsFile bytes.now c → IsUnless result (Ok c) ReadError.NoMemory }

@@ -1,4 +1,5 @@
--- An image has the shape of its class: its pool has the class's entries in front, and a method keeps its flags and its indices.
+-- An image has the shape of its class: its pool has the class's entries in front, and a method keeps its flags and its
+-- indices.
 use Rattle.std.proofs.Common.{◌≡◌, ℕ, Bool, true, false, List, [], ◌∷◌, ◌++◌, map, length, slice_get, Option, Some, None, is_some, refl, sym, ap, subst, ◌∙◌, ◌⊎◌, inl, inr}
 use Rattle.std.specs.Prelude.{MatchBool}
 use Rattle.std.specs.List.{AllByRecursion}

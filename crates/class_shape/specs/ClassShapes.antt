@@ -1,5 +1,6 @@
--- The shape of a class: what it declares of itself, its fields and its methods, where each index stands for the text that it
--- names in the class's own constant pool (JVM Specification 4.1, 4.4, 4.5, 4.6). A class is redefined by one of its shape alone.
+-- The shape of a class: what it declares of itself, its fields and its methods, where each index stands for the text
+-- that it names in the class's own constant pool (JVM Specification 4.1, 4.4, 4.5, 4.6). A class is redefined by one of
+-- its shape alone.
 use Rattle.std.specs.Prelude.{◌≡◌, ◌≢◌, ℕ, ◌⊎◌, List, length, map, take, slice_get, Option}
 use Rattle.const_pool.specs.declared.pool.Const.{Const}
 use Rattle.const_pool.specs.declared.class.ClassFile.{ClassFile}
@@ -23,8 +24,8 @@ fields_of c = map (shape_in c.pool) c.fields
 abbrev pub methods_of : ClassFile → List MemberShape
 methods_of c = map (shape_in c.pool) c.methods
 
--- what stands before the members: access_flags, the names of this_class, super_class and the interfaces in their order, and the
--- counts of fields and methods (4.1). Where super_class is 0 it names nothing.
+-- what stands before the members: access_flags, the names of this_class, super_class and the interfaces in their order,
+-- and the counts of fields and methods (4.1). Where super_class is 0 it names nothing.
 pub record Heading : Type 0 where
   pub access : ℕ
   pub name : Option (List ℕ)

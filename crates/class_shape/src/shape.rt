@@ -26,9 +26,10 @@ pub(crate) fn number_of(original: &ClassFile, image: &ClassFile) -> Option<u16>
     }
 }
 
-/// Where a class has not the shape of another, which is tried in this order: `OF_HEADING` where the flags, the names of class,
-/// superclass or interfaces or the counts of fields or methods differ; else the position of the first field that differs in flags,
-/// name or descriptor; else that of the first such method. Names are compared as texts, each by its own class's pool.
+/// Where a class has not the shape of another, which is tried in this order: `OF_HEADING` where the flags, the names of
+/// class, superclass or interfaces or the counts of fields or methods differ; else the position of the first field that
+/// differs in flags, name or descriptor; else that of the first such method. Names are compared as texts, each by its
+/// own class's pool.
 pub fn shape_fault(original: &ClassFile, image: &ClassFile) -> Option<u16>
     requires { IsClassFile image.now }
     ensures same { IsNone result ↔ HasSameShape original.now image.now }

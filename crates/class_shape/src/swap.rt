@@ -47,8 +47,8 @@ fn swap_in(alloc: Global, original: &ClassFile, bytes: &[u8]) -> Result<ClassFil
     }
 }
 
-/// Reads the class by which another one is redefined, however many its bytes are: the class that they spell, where it has the other's
-/// shape. Bytes that spell none are refused first, by `read_image`.
+/// Reads the class by which another one is redefined, however many its bytes are: the class that they spell, where it
+/// has the other's shape. Bytes that spell none are refused first, by `read_image`.
 pub fn read_swap(alloc: Global, original: &ClassFile, bytes: &[u8]) -> Result<ClassFile, SwapError>
     ensures found { IfOk result (IsSwap original.now bytes.now) }
     ensures only { (image : Class) → IsSwap original.now bytes.now image

@@ -1,5 +1,5 @@
--- A code without a fault is instructions from its front to its end, which lead to starts of instructions, and so do its handlers, whose ranges may
--- end where the code does.
+-- A code without a fault is instructions from its front to its end, which lead to starts of instructions, and so do its
+-- handlers, whose ranges may end where the code does.
 use Rattle.std.proofs.Common.{◌≡◌, ℕ, zero, suc, ◌+◌, ◌≤◌, Bool, true, false, List, [], ◌∷◌, length, Option, Some, None, Result, Ok, refl, sym, ap, subst, ◌∙◌, arith, eqb-true}
 use Rattle.std.specs.Prelude.{◌==◌, ◌||◌, not}
 use Rattle.std.specs.List.{AllByRecursion, list_all}

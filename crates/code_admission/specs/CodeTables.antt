@@ -1,5 +1,6 @@
--- The tables of a Code, in every class file version: debug tables keep to their grammars, whatever offsets their rows have (JVM
--- Specification 4.7.8, 4.7.9, 4.7.10), and a StackMapTable keeps to its own and speaks of the starts of instructions alone (4.7.4).
+-- The tables of a Code, in every class file version: debug tables keep to their grammars, whatever offsets their rows
+-- have (JVM Specification 4.7.8, 4.7.9, 4.7.10), and a StackMapTable keeps to its own and speaks of the starts of
+-- instructions alone (4.7.4).
 use Rattle.std.specs.Prelude.{ℕ, Bool, true, false, List, Result, Ok, Err, is_ok, codes, ◌&&◌, if◌then◌else◌}
 use Rattle.std.specs.List.{list_all}
 use Rattle.const_pool.specs.declared.class.Raw.{Raw}

@@ -32,8 +32,8 @@ use Rattle.code_admission.specs.Uses.{fits_pool, fits_locals, fits_targets, fits
 
 -- ---- the instructions
 
--- The instructions that the bytes from this offset on are, or their first fault (proofs/Decoded: exactly what code_model's
--- `IsReading` and `IsFirstFault` say). No code has more instructions than bytes.
+-- The instructions that the bytes from this offset on are, or their first fault (proofs/Decoded: exactly what
+-- code_model's `IsReading` and `IsFirstFault` say). No code has more instructions than bytes.
 abbrev pub instructions_from : ℕ → ℕ → List ℕ → Result (List Instr) CodeError
 instructions_from zero at bytes = Ok []
 instructions_from (suc most) at [] = Ok []

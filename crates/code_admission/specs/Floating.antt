@@ -1,4 +1,5 @@
--- Floats and doubles (JVM Specification 2.3.2), which no admitted class uses; entries of the pool that nothing names are free.
+-- Floats and doubles (JVM Specification 2.3.2), which no admitted class uses; entries of the pool that nothing names
+-- are free.
 use Rattle.std.specs.Prelude.{ℕ, Bool, true, false, List, [], ◌∷◌, Option, None, Result, Ok, Err, ◌==◌, ◌&&◌, ◌||◌}
 use Rattle.std.specs.Option.{option_and_then, option_map, option_map_or}
 use Rattle.const_pool.specs.declared.pool.Const.{Const}

@@ -1,4 +1,5 @@
--- What an instruction names: a constant, locals, targets, a type (JVM Specification 4.9.1, 6.5). One row an opcode or a group of them.
+-- What an instruction names: a constant, locals, targets, a type (JVM Specification 4.9.1, 6.5). One row an opcode or a
+-- group of them.
 use Rattle.std.specs.Prelude.{◌≡◌, ℕ, ◌<◌, ◌+◌, ◌-◌, ◌%◌, Bool, true, false, not, List, Option, Some, None, unwrap_or, slice_get, codes, nat_le, ◌==◌, ◌&&◌, ◌||◌, if◌then◌else◌}
 use Rattle.std.specs.Int.{is_in_range}
 use Rattle.std.specs.List.{AllByRecursion, list_all}
@@ -79,8 +80,8 @@ fits_pool pool i = option_map_or (λ index. fits_use pool i.op index (pool_use i
 abbrev pub slots_from : ℕ → ℕ → Slots
 slots_from first count = record { first = first; count = count }
 
--- the local of an instruction whose opcode has the number in it, from `first` on: numbers 0 to 3, each of int, long, float, double
--- and reference
+-- the local of an instruction whose opcode has the number in it, from `first` on: numbers 0 to 3, each of int, long,
+-- float, double and reference
 abbrev pub short_slots : ℕ → ℕ → Slots
 short_slots first op = slots_from ((op - first) % 4) (if is_in_range (first + 4) (first + 7) op then 2 else 1)
 
@@ -164,7 +165,8 @@ fits_return result op =
 abbrev pub named_dimensions : List Const → ℕ → ℕ
 named_dimensions pool index = option_map_or dimensions_of (named_class pool index) 0
 
--- newarray of a primitive type; new of no array; anewarray, which adds a dimension; multianewarray of dimensions that there are
+-- newarray of a primitive type; new of no array; anewarray, which adds a dimension; multianewarray of dimensions that
+-- there are
 abbrev pub fits_type : List Const → ℕ → Arg → Bool
 fits_type pool op (arg.Array code) = is_in_range 4 11 code
 fits_type pool op (arg.Pool index) =

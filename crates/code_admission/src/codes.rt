@@ -325,8 +325,8 @@ fn check_method(
     }
 }
 
-/// The codes of the class's methods, in order, where none of them has a fault; None stands for a method without Code. The class
-/// has this position among those given. A refusal is the first fault.
+/// The codes of the class's methods, in order, where none of them has a fault; None stands for a method without Code.
+/// The class has this position among those given. A refusal is the first fault.
 pub fn check_codes(
     alloc: Global,
     number: u32,

@@ -8,8 +8,8 @@ use jf_bytes::NoMemory;
 use std::alloc::{AllocError, AllocFailed};
 use thiserror::Error;
 
-/// A place in a class: the position of a field or of a method, and for code and for a frame the position of its method and the
-/// offset of the instruction or of the frame.
+/// A place in a class: the position of a field or of a method, and for code and for a frame the position of its method
+/// and the offset of the instruction or of the frame.
 #[derive(Clone, Copy, Debug, PartialEq, Eq)]
 pub enum FloatingPointUse {
     Field(u16),
@@ -46,8 +46,8 @@ pub enum CodeCause {
     Table,
 }
 
-/// Why a program is not admitted: its first fault. The first number is the position of the class among those given; the numbers
-/// of `BadCode` behind it are the position of the method and an offset in its code.
+/// Why a program is not admitted: its first fault. The first number is the position of the class among those given; the
+/// numbers of `BadCode` behind it are the position of the method and an offset in its code.
 #[derive(Clone, Copy, Debug, PartialEq, Eq, Error)]
 pub enum AdmitError {
     /// The class has the name of a built-in class or of the probes, or names the class of the probes.

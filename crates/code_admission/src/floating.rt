@@ -202,8 +202,8 @@ fn body_fault(number: u32, pool: &Pool, codes: &[Option<Code>]) -> Option<AdmitE
     None
 }
 
-/// The first float or double that the class uses, in fields, methods, code and then frames. `codes` are what its methods' codes
-/// were read as.
+/// The first float or double that the class uses, in fields, methods, code and then frames. `codes` are what its
+/// methods' codes were read as.
 pub fn floating_fault(
     alloc: Global,
     number: u32,

@@ -1,4 +1,5 @@
-//! What admission asks of a class's codes (JVM Specification 4.7.3, 4.9.1), of floating point in a class, and the errors of admission.
+//! What admission asks of a class's codes (JVM Specification 4.7.3, 4.9.1), of floating point in a class, and the
+//! errors of admission.
 #![tactic(auto)]
 
 mod code_tables;

@@ -115,8 +115,9 @@ all_lead_to_starts instrs = list_all (λ (i : Instr). leads_to_starts instrs i.a
 
 -- ---- layouts
 
--- What is laid out of a group: at the home of its instruction's offset stands what goes in front, and behind that, at the place, the
--- instruction, with each target where the homes have it. The next offset has its home where the group ends.
+-- What is laid out of a group: at the home of its instruction's offset stands what goes in front, and behind that, at
+-- the place, the instruction, with each target where the homes have it. The next offset has its home where the group
+-- ends.
 pub record IsLaidIn (laid : Laid) (g : Group) : Type 0 where
   pub home : ℕ
   pub homed : home_in laid.homes g.instr.at ≡ Some home

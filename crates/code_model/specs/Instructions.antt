@@ -1,5 +1,5 @@
--- The instructions of a code: which one stands at an offset, which offsets have one, and the first fault of bytes that are no
--- code (JVM Specification 4.9.1, 6.5).
+-- The instructions of a code: which one stands at an offset, which offsets have one, and the first fault of bytes that
+-- are no code (JVM Specification 4.9.1, 6.5).
 use Rattle.std.specs.Prelude.{◌≡◌, ◌≢◌, ◌↔◌, ℕ, ◌+◌, ◌<◌, List, [], ◌∷◌, ◌++◌, length, drop, Option, Some, None, Result, Ok, Err}
 use Rattle.std.specs.List.{AllByRecursion}
 use Rattle.code_model.specs.declared.instr.Instr.{Instr}
@@ -39,7 +39,8 @@ ArePlaced bytes instrs = AllByRecursion (λ (i : Instr). instruction_at bytes i.
 abbrev pub end_of : Instr → ℕ
 end_of i = i.at + size_at i.at i
 
--- From this offset on the bytes are these instructions: each begins where the one before ends, and the last ends where the bytes do.
+-- From this offset on the bytes are these instructions: each begins where the one before ends, and the last ends where
+-- the bytes do.
 abbrev pub Reads : List ℕ → ℕ → List Instr → Type 0
 Reads bytes at [] = at ≡ length bytes
 Reads bytes at (i ∷ rest) = (instruction_at bytes at ≡ Some i) × Reads bytes (end_of i) rest

@@ -59,8 +59,8 @@ target_bytes home place w t = signed_bytes w (distance place (home t))
 abbrev pub pair_bytes : (ℕ → ℕ) → ℕ → ℤ × ℕ → List ℕ
 pair_bytes home place pair = s4 pair.0 ++ target_bytes home place w32 pair.1
 
--- What stands behind the opcode of an instruction at this place, with each target where `home` has it. The numbers of a form
--- without a fixed width have the width `w`.
+-- What stands behind the opcode of an instruction at this place, with each target where `home` has it. The numbers of a
+-- form without a fixed width have the width `w`.
 abbrev pub operand_bytes : (ℕ → ℕ) → ℕ → Width → Arg → List ℕ
 operand_bytes home place w Plain = []
 operand_bytes home place w (Value n) = signed_bytes w n

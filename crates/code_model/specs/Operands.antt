@@ -1,5 +1,5 @@
--- The operand of each form: how its bytes lie behind the opcode (JVM Specification 6.5). `at` is the offset of the opcode, or of
--- the wide in front of it.
+-- The operand of each form: how its bytes lie behind the opcode (JVM Specification 6.5). `at` is the offset of the
+-- opcode, or of the wide in front of it.
 use Rattle.std.specs.Prelude.{ℕ, suc, ◌-◌, ◌%◌, Bool, true, List, [], ◌∷◌, map, ℤ, pos, negsuc, ◌+ℤ◌, ◌-ℤ◌, int_le, int_lt, nat_le, nat_lt, ◌&&◌, false, if◌then◌else◌}
 use Rattle.std.specs.Int.{Width, w8, w16, w32, cast_signed}
 use Rattle.op_table.specs.declared.Form.{Form}

@@ -1,4 +1,5 @@
--- Reading an instruction from left to right: what stands at the front of the bytes, and the bytes after it, or the first fault.
+-- Reading an instruction from left to right: what stands at the front of the bytes, and the bytes after it, or the
+-- first fault.
 use Rattle.std.specs.Prelude.{ℕ, Bool, List, [], ◌++◌, map, Result, Ok, Err, ℤ, int_le, true, false, if◌then◌else◌}
 use Rattle.std.specs.Int.{Width, w8, w16, w32, byte_len, from_be_bytes, cast_signed}
 use Rattle.op_table.specs.declared.Form.{Form}

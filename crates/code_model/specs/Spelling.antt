@@ -1,5 +1,5 @@
--- What the functions that put bytes add. `homes` are behind a reference: a target goes where they have it, or stays where it was
--- if there are none.
+-- What the functions that put bytes add. `homes` are behind a reference: a target goes where they have it, or stays
+-- where it was if there are none.
 use Rattle.std.specs.Prelude.{◌≡◌, ℕ, List, ◌++◌, length, zip, Option, Result, OnOk, ℤ}
 use Rattle.std.specs.Borrow.{Bor}
 use Rattle.std.specs.Int.{Width, w32}

@@ -49,9 +49,9 @@ pub fn instr_at(alloc: Global, bytes: &[u8], at: u16) -> Result<Option<Instr>, N
     }
 }
 
-/// The instructions that the bytes are, from offset 0 on (JVM Specification 4.9.1): each opcode of versions 45 to 50, also
-/// behind wide. What admits or rewrites methods calls it. A refusal is the first fault from the left: the bytes before its
-/// instruction are whole instructions. To a user it means that the class file has a faulty method.
+/// The instructions that the bytes are, from offset 0 on (JVM Specification 4.9.1): each opcode of versions 45 to 50,
+/// also behind wide. What admits or rewrites methods calls it. A refusal is the first fault from the left: the bytes
+/// before its instruction are whole instructions. To a user it means that the class file has a faulty method.
 pub fn decode(alloc: Global, bytes: &[u8]) -> Result<Code, CodeError>
     requires some { 0 < length bytes.now }
     requires short { length bytes.now ≤ 65535 }

@@ -10,8 +10,9 @@ use crate::spelling::put_instrs;
 use jf_bytes::{NoMemory, Seq};
 use std::alloc::Global;
 
-/// The bytes whose instructions are these (JVM Specification 4.7.3, 6.5), with zeros for padding: `decode` gives the code back
-/// from them. The code is one that `decode` gave, and each of its targets is the start of one of its instructions.
+/// The bytes whose instructions are these (JVM Specification 4.7.3, 6.5), with zeros for padding: `decode` gives the
+/// code back from them. The code is one that `decode` gave, and each of its targets is the start of one of its
+/// instructions.
 pub fn encode(alloc: Global, code: &Code) -> Result<Vec<u8>, NoMemory>
     requires { IsEncodable code.now }
     ensures read { IfOk result (λ bytes. IsReading bytes.items code.now) }

@@ -6,8 +6,8 @@ ghost use Rattle.code_model.specs.declared.error.CodeError.TheVariants.{NoMemory
 use std::alloc::{AllocError, AllocFailed};
 use thiserror::Error;
 
-/// What `decode` answers in place of a code: the first fault, with the offset of the opcode of its instruction, or of the
-/// wide in front of it.
+/// What `decode` answers in place of a code: the first fault, with the offset of the opcode of its instruction, or of
+/// the wide in front of it.
 #[derive(Debug, Drop, Error)]
 pub enum CodeError {
     /// The opcode stands for no instruction of a class file of version 45 to 50, or for none that may follow wide.

@@ -91,8 +91,8 @@ fn own_homes(alloc: Global, code: &Code) -> Result<Homes, NoMemory>
     Ok(homes)
 }
 
-/// Homes of code that stays where it is, as it does without probes: the start of each instruction and the code's end is its own
-/// home and its own place. The code is one that `decode` gave.
+/// Homes of code that stays where it is, as it does without probes: the start of each instruction and the code's end is
+/// its own home and its own place. The code is one that `decode` gave.
 pub fn homes_unmoved(alloc: Global, code: &Code) -> Result<Homes, NoMemory>
     requires { IsRead code.now }
     ensures homes { IfOk result (λ homes. homes ≡ unmoved_homes code.now) }
@@ -115,8 +115,8 @@ fn index_of(numbers: &[u16], wanted: u16) -> Option<usize>
 }
 
 impl Homes {
-    /// Where what goes in front of the instruction at an original offset begins. None where no instruction starts there and
-    /// the code does not end there.
+    /// Where what goes in front of the instruction at an original offset begins. None where no instruction starts there
+    /// and the code does not end there.
     pub fn home(&self, at: u16) -> Option<u16>
         requires { IsStrictlyIncreasing self.now.from }
         ensures { result ≡ home_in self.now at }
@@ -157,8 +157,8 @@ impl Homes {
         }
     }
 
-    /// The original offset of the instruction that stands at a place. None at each offset between places, in front of them
-    /// and where the code ends.
+    /// The original offset of the instruction that stands at a place. None at each offset between places, in front of
+    /// them and where the code ends.
     pub fn origin(&self, place: u16) -> Option<u16>
         requires { AreRising self.now }
         ensures origin { result ≡ instruction_origin self.now place }

@@ -28,8 +28,8 @@ pub struct Group {
 }
 
 /// Where each original offset comes to stand. `from` lists the original starts and then the code's end; `home` and
-/// `place` have one entry for each: where the bytes in front of the instruction begin, and where it stands itself. At the
-/// code's end the place is the home.
+/// `place` have one entry for each: where the bytes in front of the instruction begin, and where it stands itself. At
+/// the code's end the place is the home.
 #[derive(Debug, Drop)]
 pub struct Homes {
     pub from: Seq<u16>,
@@ -102,9 +102,9 @@ fn first_far(homes: &Homes, groups: &[Group], start: u32) -> Option<u16>
 }
 
 /// Lays code out anew: the front, then for each group what goes in front of its instruction and the instruction itself,
-/// then the back (JVM Specification 4.7.3). The instructions are those of one decoded code, in order. A target becomes its
-/// home, and padding zero. What rewrites methods calls it, and carries offsets of the method's tables over by the homes. To a
-/// user `TooLong` and `Far` mean that the method is too long to be profiled.
+/// then the back (JVM Specification 4.7.3). The instructions are those of one decoded code, in order. A target becomes
+/// its home, and padding zero. What rewrites methods calls it, and carries offsets of the method's tables over by the
+/// homes. To a user `TooLong` and `Far` mean that the method is too long to be profiled.
 pub fn lay_out(alloc: Global, front: &[u8], groups: &[Group], back: &[u8]) -> Result<Laid, LayError>
     requires groups { AreGroups groups.now }
     requires prefix { IsShort front.now }

@@ -1,5 +1,6 @@
-//! Big-endian numbers of operands (JVM Specification 6.5). Each reader here and in the other modules is given the offset of the
-//! instruction's opcode, where a fault is told, and the bytes that are left; it answers the bytes behind its item.
+//! Big-endian numbers of operands (JVM Specification 6.5). Each reader here and in the other modules is given the
+//! offset of the instruction's opcode, where a fault is told, and the bytes that are left; it answers the bytes behind
+//! its item.
 
 ghost use Rattle.std.specs.Prelude.{◌≡◌};
 ghost use Rattle.std.specs.Int.{w8, w16, w32};

@@ -1,5 +1,5 @@
-//! Tests of the crates of code, frames, values and events, over their public items. They stand in a crate of their own, since
-//! a build of tests proves all of its crate.
+//! Tests of the crates of code, frames, values and events, over their public items. They stand in a crate of their own,
+//! since a build of tests proves all of its crate.
 #![tactic(auto)]
 
 #[cfg(test)]

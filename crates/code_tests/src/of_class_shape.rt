@@ -6,7 +6,8 @@ use class_shape::SwapError::{NotSameShape, Unreadable};
 use class_shape::{OF_HEADING, SwapError, read_swap};
 use std::alloc::Global;
 
-/// The class A below B with the interface C, the field x, which is an int, and the abstract methods f and g, which are ()V.
+/// The class A below B with the interface C, the field x, which is an int, and the abstract methods f and g, which are
+/// ()V.
 const A: [u8; 93] = [
     0xca, 0xfe, 0xba, 0xbe, 0, 0, 0, 50, 0, 12, 1, 0, 1, 65, 7, 0, 1, 1, 0, 1, 66, 7, 0, 3, 1, 0,
     1, 120, 1, 0, 1, 73, 1, 0, 1, 102, 1, 0, 1, 103, 1, 0, 3, 40, 41, 86, 1, 0, 1, 67, 7, 0, 10, 4,

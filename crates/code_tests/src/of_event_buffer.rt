@@ -1,5 +1,5 @@
-//! The lengths of records, the edge of the room, and many events through a small ring. The bytes of records, which no public
-//! call shows, are computed in proofs/WorkedRecords.
+//! The lengths of records, the edge of the room, and many events through a small ring. The bytes of records, which no
+//! public call shows, are computed in proofs/WorkedRecords.
 
 use event_buffer::Events;
 use jvm_model::{Event, EventKind};

@@ -111,8 +111,8 @@ fn what_objects_have(rt: HostRuntime) {
     }
 }
 
-/// Makes an instance, an array, a text, one of units that are given away, or an interned text, with so many fields, elements
-/// or units.
+/// Makes an instance, an array, a text, one of units that are given away, or an interned text, with so many fields,
+/// elements or units.
 fn make(
     alloc: Global,
     heap: &mut Heap,
@@ -133,8 +133,8 @@ fn make(
     }
 }
 
-/// What is answered in a heap of nine slots for one slot too many, for as many as fit, and for no more, and the slots used
-/// before and behind those that fit.
+/// What is answered in a heap of nine slots for one slot too many, for as many as fit, and for no more, and the slots
+/// used before and behind those that fit.
 fn at_the_limit(alloc: Global, sort: u8) -> ([Result<u32, HeapError>; 3], [u32; 2]) {
     let mut heap = Heap::new(alloc, 9);
     let more = make(alloc, &mut heap, sort, &[Datum::Int(1); 9], &[1; 9]);

@@ -65,8 +65,8 @@ fn writes_what_was_read(rt: HostRuntime) {
     assert!(rt; short);
 }
 
-/// No frames' type; no tag; ends within a delta; goes on behind its frames; a frame above offset 65535 whose tag is none
-/// either.
+/// No frames' type; no tag; ends within a delta; goes on behind its frames; a frame above offset 65535 whose tag is
+/// none either.
 const BAD: [(&'static [u8], usize); 7] = [
     (&[0, 1, 200], 2),
     (&[0, 1, 128], 2),

@@ -1,4 +1,5 @@
--- clap's test of whether words are taken says what its list of faults says: each step passes exactly where it has no fault.
+-- clap's test of whether words are taken says what its list of faults says: each step passes exactly where it has no
+-- fault.
 use Rattle.std.proofs.Common.{◌≡◌, ◌∙◌, ◌&&◌, ◌||◌, ℕ, Bool, true, false, not, zero, suc, refl, sym, ap, ap₂, arith, List, [], ◌∷◌, length, drop, nat_le, Option, Some, None, is_some, rules}
 use Rattle.std.specs.Prelude.{encode_utf8, if◌then◌else◌, slice_get}
 use Rattle.std.specs.Option.{option_map_or}

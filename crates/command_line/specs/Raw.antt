@@ -16,7 +16,8 @@ abbrev pub word_in : List ℕ → Result ℕ FillError → Result (List ℕ) Fil
 word_in room (Ok count) = Ok (take count room)
 word_in room (Err error) = Err error
 
--- the answer where the word of that number is asked for, with room for so many bytes: the word, or none, or a longer one
+-- the answer where the word of that number is asked for, with room for so many bytes: the word, or none, or a longer
+-- one
 abbrev pub IsAnswered : ToldWords → ℕ → ℕ → Result (List ℕ) FillError → Type 0
 IsAnswered given number room (Ok word) = IfSome given (λ words. slice_get words number ≡ Some word)
 IsAnswered given number room (Err NotPresent) = IfSome given (λ words. slice_get words number ≡ None)

@@ -63,8 +63,9 @@ pub fn own_plan(alloc: Global, words: &Words<'_>) -> Result<Plan, PlanError>
     }
 }
 
-/// What accepted words and the plan, which they or their root gave, ask for: main class and budget are the words', else the
-/// plan's; heap, args and actions are the plan's. None where neither names a main class, which is a refusal of the words.
+/// What accepted words and the plan, which they or their root gave, ask for: main class and budget are the words', else
+/// the plan's; heap, args and actions are the plan's. None where neither names a main class, which is a refusal of the
+/// words.
 pub fn command_of<'a>(words: &'a Words<'_>, plan: &'a Plan) -> Option<Command<'a>>
     ensures chosen { option_map chosen_in result
         ≡ run_chosen (read_in words.entry.now) plan.entry.now }

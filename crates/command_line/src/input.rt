@@ -58,8 +58,8 @@ fn take_some<I: Source>(source: &mut I, buf: &mut [u8]) -> Result<usize, Failed>
     source.take(buf)
 }
 
-/// All bytes that a source has left, where they are at most 16,777,216. At one byte more it stops, and at the first take
-/// that fails. The call comes after admission, so that a program that is refused takes no input.
+/// All bytes that a source has left, where they are at most 16,777,216. At one byte more it stops, and at the first
+/// take that fails. The call comes after admission, so that a program that is refused takes no input.
 pub fn take_input<I: Source>(alloc: Global, source: &mut I) -> Result<Seq<u8>, InputError>
     ensures input { IsInput (I.left source.old) result }
     ensures taken { TakesInput (I.left source.old) (I.left source.new) result }

@@ -44,8 +44,8 @@ pub trait Process {
     /// The words, where the object tells them.
     ghost words: { Self → Option (List (List ℕ)) };
 
-    /// Copies the word of this number to the start of the room, and answers how long it is. `NotPresent` says that there is no such
-    /// word, and `TooLong` that it is longer than the room.
+    /// Copies the word of this number to the start of the room, and answers how long it is. `NotPresent` says that
+    /// there is no such word, and `TooLong` that it is longer than the room.
     fn word(&self, number: usize, room: &mut [u8]) -> Result<usize, FillError>
         ensures within { WritesAtMost result room.new }
         ensures word { IsAnswered (words self.now) number (length room.new)
@@ -92,8 +92,8 @@ fn word_within<P: Process>(
     }
 }
 
-/// The word of this number, or None where there is none. The room for it is doubled up to where the word fits, or where there is no
-/// memory for the room.
+/// The word of this number, or None where there is none. The room for it is doubled up to where the word fits, or where
+/// there is no memory for the room.
 fn word_at<P: Process>(
     alloc: Global,
     process: &P,

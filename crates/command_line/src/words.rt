@@ -50,8 +50,8 @@ pub struct Generation {
     pub size: u32,
 }
 
-/// What accepted words say. A root and a plan are never there together, one of main and plan is, and there are 1 to 1,024
-/// files, unless the program is generated: then there is none, and its main class is GenMain.
+/// What accepted words say. A root and a plan are never there together, one of main and plan is, and there are 1 to
+/// 1,024 files, unless the program is generated: then there is none, and its main class is GenMain.
 #[derive(Debug, Drop)]
 pub struct Words<'a> {
     /// The main class in its internal form (JVM Specification 4.2.1).
@@ -370,16 +370,16 @@ fn words_accepted<'a>(alloc: Global, given: FoundValues<'a>) -> Result<Words<'a>
     })
 }
 
-/// Reads the words, of which the first is the program's name:
-/// `[--main M] [--root R] [--budget N] [--plan P] [--images] [--gen SEED --size N] [FILE...]`, as clap takes options with one value
-/// each, a flag, and any number of files.
+/// Reads the words, of which the first is the program's name: `[--main M] [--root R] [--budget N] [--plan P] [--images]
+/// [--gen SEED --size N] [FILE...]`, as clap takes options with one value each, a flag, and any number of files.
 ///
-/// Of the words that clap takes, those are refused that have `--root` and `--plan`, no file or more than 1,024, a budget that is
-/// not 1 to 13 digits or is above 1,000,000,000,000, or neither `--main` nor `--plan`. With `--plan` alone only the plan can name
-/// the main class, so `command_of` decides once it was read.
+/// Of the words that clap takes, those are refused that have `--root` and `--plan`, no file or more than 1,024, a
+/// budget that is not 1 to 13 digits or is above 1,000,000,000,000, or neither `--main` nor `--plan`. With `--plan`
+/// alone only the plan can name the main class, so `command_of` decides once it was read.
 ///
-/// With `--gen` a program is generated, whose main class is GenMain. Then there is `--size`, which is not there without it, and no
-/// file and no `--main`; the seed is a number of 1 to 13 digits of at most 2,147,483,647, and the size one from 1 to 200.
+/// With `--gen` a program is generated, whose main class is GenMain. Then there is `--size`, which is not there without
+/// it, and no file and no `--main`; the seed is a number of 1 to 13 digits of at most 2,147,483,647, and the size one
+/// from 1 to 200.
 pub fn read_words<'a, S: AsStr>(alloc: Global, words: &'a [S]) -> Result<Words<'a>, WordsError>
     ensures read { IsRead (map S.text words.entry.now) result }
     ensures sound { IfOk result (λ words. IsSound (read_in words)) }

@@ -68,8 +68,8 @@ is_wide (Long n) = true
 is_wide (Double n) = true
 is_wide _ = false
 
--- each entry is a gap exactly where one is due: behind what takes two indices, and first where the Bool says so; none is
--- due behind the last
+-- each entry is a gap exactly where one is due: behind what takes two indices, and first where the Bool says so; none
+-- is due behind the last
 abbrev pub gaps_due : Bool → List Const → Bool
 gaps_due due [] = not due
 gaps_due due (c ∷ pool) = beq (is_gap c) due && gaps_due (is_wide c) pool

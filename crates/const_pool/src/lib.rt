@@ -1,5 +1,5 @@
-//! The class file as a value (JVM Specification 4): its types, its constant pool with the tail of a rewritten class, its
-//! descriptors, the names of the built-in classes, and what bytes spell it.
+//! The class file as a value (JVM Specification 4): its types, its constant pool with the tail of a rewritten class,
+//! its descriptors, the names of the built-in classes, and what bytes spell it.
 #![tactic(auto)]
 
 mod class;

@@ -1,5 +1,5 @@
--- The fold of events, said of the whole list at once; and what it comes to where versions tell, each activation in the version of its mark
--- at the last point before it began.
+-- The fold of events, said of the whole list at once; and what it comes to where versions tell, each activation in the
+-- version of its mark at the last point before it began.
 use Rattle.std.specs.Prelude.{◌≡◌, ◌<◌, ℕ, List, false, is_some}
 use Rattle.const_pool.specs.declared.class.ClassFile.{ClassFile}
 use Rattle.jvm_model.specs.declared.event.Act.{Act}
@@ -20,13 +20,14 @@ use Rattle.context_tree.specs.Counts.{contexts_counted, AreInOrder}
 abbrev pub FoldsToCounts : Type 0
 FoldsToCounts = (events : List Event) (clock : ℕ) → AreInOrder 0 events clock → (steps_credited clock (profile_of events)).contexts ≡ contexts_counted events clock
 
--- The tree is the projection of the run: for every sound program, every input, every list of actions whose moments do not fall, and every
--- number of steps before whose last one the run has not ended.
+-- The tree is the projection of the run: for every sound program, every input, every list of actions whose moments do
+-- not fall, and every number of steps before whose last one the run has not ended.
 abbrev pub TreeIsProjection : Type 0
 TreeIsProjection = (own : List ClassFile) (name : List ℕ) (w : World) → IsSoundProgram own name w.program → (acts : List Act) → AreFrom 0 acts → (n : ℕ) → ((m : ℕ) → m < n → is_some (run w m).ending ≡ false)
     → (steps_credited n (profile_of (events_of (marking_of acts w) w n))).contexts ≡ projection acts w n
 
--- What is seen of a run by its own actions, by what is loaded and by the events of these versions is what stands at its points.
+-- What is seen of a run by its own actions, by what is loaded and by the events of these versions is what stands at its
+-- points.
 abbrev pub SessionSees : Type 0
 SessionSees = (own : List ClassFile) (name : List ℕ) (w : World) → IsSoundProgram own name w.program → (acts : List Act) → AreFrom 0 acts → (n : ℕ)
     → Matches acts (seen_before acts w (marking_of acts w) n) (standing_in acts w (original w.program) n)

@@ -59,7 +59,8 @@ path_opened method p = record p { contexts = call_begun (p.open ++ method ∷ []
 abbrev pub path_closed : Profile → Profile
 path_closed p = record p { «open» = parent_path p.open }
 
--- A root opens an entry; another method's entry opens one where one is open; leaving and unwinding close the last open one.
+-- A root opens an entry; another method's entry opens one where one is open; leaving and unwinding close the last open
+-- one.
 abbrev pub event_told : EventKind → ℕ → Profile → Profile
 event_told Root method p = path_opened method p
 event_told Enter method p = if is_outside p.open then p else path_opened method p

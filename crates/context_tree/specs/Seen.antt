@@ -1,5 +1,5 @@
--- What a session keeps of the points, by what it sees: its own actions, which classes a step loads, and which events are told. It sees no
--- activation of a version without probes, and no activation's end but by an event.
+-- What a session keeps of the points, by what it sees: its own actions, which classes a step loads, and which events
+-- are told. It sees no activation of a version without probes, and no activation's end but by an event.
 use Rattle.std.specs.Prelude.{◌≡◌, refl, ℕ, zero, suc, not, fold, List, [], ◌++◌, if◌then◌else◌, ◌&&◌}
 use Rattle.jvm_model.specs.declared.event.Act.{Act}
 use Rattle.jvm_model.specs.declared.event.Event.{Event}

@@ -39,8 +39,8 @@ fn own_steps(alloc: Global, nodes: &[Node]) -> Result<Seq<u64>, NoMemory>
 }
 
 impl NodeTable {
-    /// The steps of each node's path and of all that go on from it. A child stands behind its parent, so one pass from the
-    /// last node to the first sums them up.
+    /// The steps of each node's path and of all that go on from it. A child stands behind its parent, so one pass from
+    /// the last node to the first sums them up.
     pub fn totals(&self, alloc: Global) -> Result<Seq<u64>, NoMemory>
         requires { IsTree self.now }
         ensures { IfOk result (λ totals. totals ≡ totals_of (profile_in self.now)) }

@@ -11,8 +11,8 @@ use jf_bytes::{NoMemory, Seq};
 use jvm_model::{Event, EventKind};
 use std::alloc::Global;
 
-/// The nodes in order of first begin, the outermost paths, the children of each node, the node of the open path, and the
-/// last clock.
+/// The nodes in order of first begin, the outermost paths, the children of each node, the node of the open path, and
+/// the last clock.
 #[derive(Drop)]
 pub struct NodeTable {
     pub alloc: Global,

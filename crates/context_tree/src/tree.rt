@@ -12,8 +12,8 @@ use jvm_model::Event;
 use std::alloc::Global;
 use std::marker::Model;
 
-/// A calling-context tree, built from events one by one. A clause sees its contexts in order of first begin, the open path
-/// and the last clock; an event costs one look-up of a child at most.
+/// A calling-context tree, built from events one by one. A clause sees its contexts in order of first begin, the open
+/// path and the last clock; an event costs one look-up of a child at most.
 #[derive(Drop)]
 pub struct Tree {
     table: NodeTable,
@@ -47,8 +47,8 @@ impl Tree {
         }
     }
 
-    /// Takes the next event: the steps since the last clock are those of the open path, and then a path is opened or closed.
-    /// An Err changes nothing.
+    /// Takes the next event: the steps since the last clock are those of the open path, and then a path is opened or
+    /// closed. An Err changes nothing.
     pub fn take(&mut self, event: &Event) -> Result<(), NoMemory>
         requires later { self.old.clock ≤ event.now.clock }
         requires countable { calls_of self.old < 2 ^ 64 - 1 }
@@ -63,8 +63,8 @@ impl Tree {
         Ok(())
     }
 
-    /// Gives the steps since the last clock to the open path. Credits add up, and one between two events changes nothing of
-    /// what the tree is behind them.
+    /// Gives the steps since the last clock to the open path. Credits add up, and one between two events changes
+    /// nothing of what the tree is behind them.
     pub fn credit(&mut self, clock: u64)
         requires { self.old.clock ≤ clock }
         ensures credited { self.new ≡ steps_credited clock self.old }
@@ -86,8 +86,8 @@ impl Tree {
         self.table.nodes.as_slice()
     }
 
-    /// The number of the child at a place, counted from 0 in order of first begin, of a node or, for None, of the outermost
-    /// paths. It is None exactly where there is no child at that place.
+    /// The number of the child at a place, counted from 0 in order of first begin, of a node or, for None, of the
+    /// outermost paths. It is None exactly where there is no child at that place.
     pub fn child(&self, node: Option<usize>, place: usize) -> Option<usize>
         requires { IfSome node (λ i. i < length self.now.contexts) }
         ensures child { result ≡ child_at node place self.now.contexts }

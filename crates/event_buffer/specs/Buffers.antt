@@ -3,8 +3,8 @@ use Rattle.std.specs.Prelude.{ℕ, List, [], ◌∷◌, ◌++◌, length}
 use Rattle.jvm_model.specs.declared.event.Event.{Event}
 use Rattle.event_buffer.specs.Records.{record_of, records_of}
 
--- the events held, the one that is popped next first; the clock of the last event that was popped, at first 0; and the most
--- bytes that may be held
+-- the events held, the one that is popped next first; the clock of the last event that was popped, at first 0; and the
+-- most bytes that may be held
 pub record Held : Type 0 where
   pub events : List Event
   pub popped : ℕ

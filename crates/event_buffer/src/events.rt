@@ -15,9 +15,9 @@ use std::marker::Model;
 #[derive(Clone, Copy, Debug, PartialEq, Eq)]
 pub struct Full;
 
-/// Events, first in and first out, in room of bytes that is made once. A clause sees the events, the clock of the one that
-/// was popped last, and the capacity. A record is one byte (0 root, 1 enter, 2 leave, 3 unwind), the method, and the clock
-/// less that of the event that was pushed before, both in unsigned LEB128.
+/// Events, first in and first out, in room of bytes that is made once. A clause sees the events, the clock of the one
+/// that was popped last, and the capacity. A record is one byte (0 root, 1 enter, 2 leave, 3 unwind), the method, and
+/// the clock less that of the event that was pushed before, both in unsigned LEB128.
 #[derive(Drop)]
 pub struct Events {
     bytes: Room,

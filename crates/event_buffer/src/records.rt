@@ -57,8 +57,8 @@ pub(crate) fn put_record(bytes: &mut Room, before: u64, event: Event)
     put_number(bytes, event.clock - before);
 }
 
-/// The same at once, where its numbers are small, as mostly, and there are three places behind the bytes that are held. Says whether
-/// it did.
+/// The same at once, where its numbers are small, as mostly, and there are three places behind the bytes that are held.
+/// Says whether it did.
 #[inline(always)]
 pub(crate) fn put_small_record(bytes: &mut Room, before: u64, event: Event) -> bool
     requires later { before ≤ event.clock }

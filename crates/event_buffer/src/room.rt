@@ -7,8 +7,8 @@ use jf_bytes::NoMemory;
 use std::alloc::Global;
 use std::marker::Model;
 
-/// Bytes, first in and first out, in one piece. A clause sees those that are held, and how many may be. Where they have come to
-/// the end of the room, they are put back to its begin, which a room that is emptied now and then needs seldom.
+/// Bytes, first in and first out, in one piece. A clause sees those that are held, and how many may be. Where they have
+/// come to the end of the room, they are put back to its begin, which a room that is emptied now and then needs seldom.
 #[derive(Drop)]
 pub(crate) struct Room {
     bytes: Vec<u8>,

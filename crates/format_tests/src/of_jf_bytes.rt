@@ -1,5 +1,5 @@
-//! A source in memory and the adapters at their work, and at a fault. The sinks and files in memory are at work in each row of
-//! worked_rows.
+//! A source in memory and the adapters at their work, and at a fault. The sinks and files in memory are at work in each
+//! row of worked_rows.
 
 use jf_bytes::{
     DiskFiles, Failed, FetchError, Files, LateFile, MemSource, Sink, Source, StdSink, StdSource,

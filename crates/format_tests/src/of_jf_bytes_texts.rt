@@ -1,4 +1,5 @@
-//! The four text calls, on texts whose bytes are known from outside. Bytes that are no modified UTF-8 are rows of worked_rows.
+//! The four text calls, on texts whose bytes are known from outside. Bytes that are no modified UTF-8 are rows of
+//! worked_rows.
 
 use jf_bytes::{Text16, from_modified, from_utf8, to_modified, to_utf8};
 use std::alloc::{AllocError, Global};

@@ -1,5 +1,5 @@
-//! The bytes of whole programs beside those that another program wrote. The first draws, which no public call shows, are
-//! computed in proofs/WorkedDraws.
+//! The bytes of whole programs beside those that another program wrote. The first draws, which no public call shows,
+//! are computed in proofs/WorkedDraws.
 
 mod vectors;
 

@@ -4,8 +4,8 @@ use Rattle.std.specs.Option.{option_flatten}
 use Rattle.heap_objects.specs.declared.Value.{Value}
 use Rattle.frame_stack.specs.Widths.{is_long, width, height_of, slots_of_all}
 
--- A frame at a place of the version that it runs. A slot of its locals has nothing where nothing was written, in the second
--- slot of a long, and where a long was broken. Its operands stand the top first.
+-- A frame at a place of the version that it runs. A slot of its locals has nothing where nothing was written, in the
+-- second slot of a long, and where a long was broken. Its operands stand the top first.
 pub record PlacedFrame : Type 0 where
   pub version : ℕ
   pub method : ℕ

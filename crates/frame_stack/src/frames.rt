@@ -27,10 +27,10 @@ use jf_bytes::NoMemory;
 use std::alloc::Global;
 use std::marker::Model;
 
-/// All frames in one vector of slots, each from its base on: its locals, then its operands. A clause sees the list of the
-/// frames, the top first, and the room for one more. The arguments of a call stay where the caller pushed them, and are
-/// the callee's first locals. Only `reserve` takes memory: for the frame that comes, and for a counter of the frames that run
-/// the top one's version.
+/// All frames in one vector of slots, each from its base on: its locals, then its operands. A clause sees the list of
+/// the frames, the top first, and the room for one more. The arguments of a call stay where the caller pushed them, and
+/// are the callee's first locals. Only `reserve` takes memory: for the frame that comes, and for a counter of the
+/// frames that run the top one's version.
 #[derive(Drop)]
 pub struct Frames {
     slots: Room,
@@ -112,8 +112,8 @@ impl Frames {
         self.top.go(place)
     }
 
-    /// Puts an operand on top of the top frame's. False, with nothing changed, where there is no frame, or where their depth
-    /// in slots would pass max_stack (2.6.2).
+    /// Puts an operand on top of the top frame's. False, with nothing changed, where there is no frame, or where their
+    /// depth in slots would pass max_stack (2.6.2).
     #[inline(always)]
     pub fn push(&mut self, value: Value) -> bool
         ensures answer { result ≡ can_push value self.old.frames }
@@ -226,8 +226,8 @@ impl Frames {
         top_value(&self.slots, floor, end)
     }
 
-    /// The value of a local (2.6.1), or None where there is no such slot or nothing that can be read stands in it: it was not
-    /// written, it is the second slot of a long, or it began a long whose second slot was written since.
+    /// The value of a local (2.6.1), or None where there is no such slot or nothing that can be read stands in it: it
+    /// was not written, it is the second slot of a long, or it began a long whose second slot was written since.
     #[inline(always)]
     pub fn local(&self, slot: u16) -> Option<Value>
         ensures { result ≡ local_of slot self.now.frames }
@@ -251,8 +251,8 @@ impl Frames {
         true
     }
 
-    /// Takes the top frame off and gives its version, or None where there is no frame. The caller's operands are those that it
-    /// had without the arguments.
+    /// Takes the top frame off and gives its version, or None where there is no frame. The caller's operands are those
+    /// that it had without the arguments.
     pub fn leave(&mut self) -> Option<usize>
         ensures answer { result ≡ version_of self.old.frames }
         ensures frames { self.new ≡ without_frame self.old }
@@ -295,8 +295,9 @@ impl Frames {
         true
     }
 
-    /// Takes the top frame off. The one below it goes on at a place, with what is given on top of the operands that it had without
-    /// the arguments (JVM Specification 2.6.4). False, with nothing changed, where there is none, or it has no room for that.
+    /// Takes the top frame off. The one below it goes on at a place, with what is given on top of the operands that it
+    /// had without the arguments (JVM Specification 2.6.4). False, with nothing changed, where there is none, or it has
+    /// no room for that.
     #[inline(always)]
     pub fn give_back(&mut self, value: Option<Value>, place: u16) -> bool
         ensures answer { result ≡ can_give value self.old.frames }
@@ -312,8 +313,8 @@ impl Frames {
         self.go(place)
     }
 
-    /// Makes room for a frame of these limits on top of the top frame's limit. The room is there until a frame begins or ends.
-    /// An Err says that memory ran out, and changes nothing.
+    /// Makes room for a frame of these limits on top of the top frame's limit. The room is there until a frame begins
+    /// or ends. An Err says that memory ran out, and changes nothing.
     pub fn reserve(&mut self, max_locals: u16, max_stack: u16) -> Result<(), NoMemory>
         ensures ok { OnOk result (self.new ≡ with_room (max_locals + max_stack) self.old) }
         ensures err { OnErr result (self.new ≡ self.old) }
@@ -330,9 +331,9 @@ impl Frames {
         Ok(())
     }
 
-    /// Begins a frame at place 0, whose first locals are the caller's `args` topmost operands, the deepest first (2.6.1), and
-    /// which takes them from the caller. False, with nothing changed, where they are fewer or take more slots than
-    /// max_locals. The other locals are not written.
+    /// Begins a frame at place 0, whose first locals are the caller's `args` topmost operands, the deepest first
+    /// (2.6.1), and which takes them from the caller. False, with nothing changed, where they are fewer or take more
+    /// slots than max_locals. The other locals are not written.
     pub fn enter(
         &mut self,
         version: usize,

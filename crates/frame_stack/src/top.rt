@@ -7,8 +7,8 @@ ghost use Rattle.frame_stack.specs.Entries.{place_in, entry_moved, locals_in, ba
 use crate::entry::Entry;
 use std::marker::Model;
 
-/// The top frame's entry, where there is one. The places are kept beside it, and are 0 where there is none, so that no test is
-/// needed before they are compared.
+/// The top frame's entry, where there is one. The places are kept beside it, and are 0 where there is none, so that no
+/// test is needed before they are compared.
 #[derive(Drop)]
 pub struct Top {
     live: bool,

@@ -1,4 +1,5 @@
--- What is asked of the row of a method for its method to keep to the rules of admission, and that each row of a generated program has it.
+-- What is asked of the row of a method for its method to keep to the rules of admission, and that each row of a
+-- generated program has it.
 use Rattle.std.proofs.Common.{◌≡◌, ℕ, ◌<◌, ◌^◌, true, false, List, [], Option, None, Some, refl}
 use Rattle.std.specs.Prelude.{◌||◌}
 use Rattle.std.specs.Option.{option_and_then}

@@ -70,8 +70,8 @@ fn admit_classes(
     admit(alloc, classes, &main, plan)
 }
 
-/// Makes the program that the seed and the size decide, with the acts of a plan. The plan's main class and its budget are not looked
-/// at. The program has all that the machine, the linker, the report and what rewrites classes ask of it.
+/// Makes the program that the seed and the size decide, with the acts of a plan. The plan's main class and its budget
+/// are not looked at. The program has all that the machine, the linker, the report and what rewrites classes ask of it.
 pub fn admit_generated(
     alloc: Global,
     seed: u32,

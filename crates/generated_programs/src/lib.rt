@@ -1,4 +1,5 @@
-//! Generated programs: their classes are made, written and admitted. Nothing refuses one but an action that names no method.
+//! Generated programs: their classes are made, written and admitted. Nothing refuses one but an action that names no
+//! method.
 #![tactic(auto)]
 
 mod admitting;

@@ -1,5 +1,5 @@
--- The heap as a list of objects, numbered from 1 in order of allocation; how many slots were used; and the interned texts.
--- An object takes one slot and one for each field, element or unit. Slots are never given back.
+-- The heap as a list of objects, numbered from 1 in order of allocation; how many slots were used; and the interned
+-- texts. An object takes one slot and one for each field, element or unit. Slots are never given back.
 use Rattle.std.specs.Prelude.{◌≡◌, ◌↔◌, ◌<◌, ◌≤◌, ℕ, ◌+◌, ◌-◌, ◌++◌, Bool, false, List, [], ◌∷◌, length, Option, None, Result, Err, IsSome, IfSome, unwrap_or, option_and_then, slice_get, replicate, is_some, if◌then◌else◌}
 use Rattle.std.specs.Option.{option_map, option_map_or}
 use Rattle.heap_objects.specs.declared.datum.Datum.{Datum}

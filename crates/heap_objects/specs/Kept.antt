@@ -1,5 +1,5 @@
--- What an array keeps of a value that is put into it (JVM Specification chapter 6, bastore to sastore): of a boolean the
--- lowest bit, of a byte, a char and a short the low bits.
+-- What an array keeps of a value that is put into it (JVM Specification chapter 6, bastore to sastore): of a boolean
+-- the lowest bit, of a byte, a char and a short the low bits.
 use Rattle.std.specs.Prelude.{ℕ, ◌%◌, ℤ, pos}
 use Rattle.std.specs.Int.{w8, w16, w32, cast_unsigned, int_wrap}
 use Rattle.int_ops.specs.Arithmetic.{zero_extended}

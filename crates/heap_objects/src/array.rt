@@ -11,7 +11,8 @@ use crate::element::{Element, element_of};
 use std::alloc::{AllocError, Global};
 use std::marker::Model;
 
-/// An array: its kind and its values, each as narrow as the kind asks. A clause sees the kind and the list of the values.
+/// An array: its kind and its values, each as narrow as the kind asks. A clause sees the kind and the list of the
+/// values.
 #[derive(Drop)]
 pub struct ArrayObject {
     kind: u32,

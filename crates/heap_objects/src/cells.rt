@@ -9,8 +9,8 @@ use crate::element::Element;
 use crate::kept::{int_of, long_of, low_byte, low_char, low_short, lowest_bit, reference_of};
 use std::alloc::{AllocError, Global};
 
-/// The values of an array: a boolean takes a byte, as a byte does, a char and a short two, an int and a reference four, a
-/// long eight.
+/// The values of an array: a boolean takes a byte, as a byte does, a char and a short two, an int and a reference four,
+/// a long eight.
 #[derive(Drop)]
 pub enum Cells {
     Booleans(Vec<bool>),

@@ -3,8 +3,8 @@
 ghost use Rattle.std.specs.Prelude.{◌≡◌};
 ghost use Rattle.heap_objects.specs.Kinds.{element_of};
 
-/// What the elements of an array are: the element types of newarray (JVM Specification chapter 6) that hold whole numbers,
-/// references, and anything for every other kind.
+/// What the elements of an array are: the element types of newarray (JVM Specification chapter 6) that hold whole
+/// numbers, references, and anything for every other kind.
 #[derive(Clone, Copy, Debug, PartialEq, Eq)]
 pub enum Element {
     Boolean,

@@ -17,10 +17,10 @@ use jf_bytes::{NoMemory, Seq};
 use std::alloc::Global;
 use std::marker::Model;
 
-/// The objects of a run, numbered from 1 in order of allocation (JVM Specification 2.5.3), how many slots were used, and the
-/// texts that were interned. 0 is null, and no object's number. A clause sees the list of the objects. The limit is the
-/// product's own: an instance takes one slot and one for each field, an array one and one for each element, a text one and
-/// one for each unit, and none is given back.
+/// The objects of a run, numbered from 1 in order of allocation (JVM Specification 2.5.3), how many slots were used,
+/// and the texts that were interned. 0 is null, and no object's number. A clause sees the list of the objects. The
+/// limit is the product's own: an instance takes one slot and one for each field, an array one and one for each
+/// element, a text one and one for each unit, and none is given back.
 #[derive(Drop)]
 pub struct Heap {
     alloc: Global,
@@ -129,8 +129,8 @@ impl Heap {
         item_at(&self.objects, object as usize - 1)
     }
 
-    /// The value of a field or an element, or None where there is no such object or slot. A text has no slots. The value is
-    /// one that the slot keeps whole: that of an array is of its elements' sort and within their range.
+    /// The value of a field or an element, or None where there is no such object or slot. A text has no slots. The
+    /// value is one that the slot keeps whole: that of an array is of its elements' sort and within their range.
     #[inline(always)]
     pub fn get(&self, object: u32, slot: u32) -> Option<Datum>
         ensures found { result ≡ slot_at object slot self.now }
@@ -196,7 +196,8 @@ impl Heap {
         Ok(number)
     }
 
-    /// Makes an instance with these fields, and gives its number. Its class is told by its kind. An Err changes nothing.
+    /// Makes an instance with these fields, and gives its number. Its class is told by its kind. An Err changes
+    /// nothing.
     pub fn instance(&mut self, kind: u32, fields: &[Datum]) -> Result<u32, HeapError>
         ensures full { IsFullExactly result (ExceedsLimit (1 + length fields.now) self.old) }
         ensures number { IfOk result (λ n. n ≡ next_number self.old) }
@@ -211,8 +212,8 @@ impl Heap {
         Ok(number)
     }
 
-    /// Makes an array of so many elements, each with what it keeps of `zero`, and gives its number. The zeros are written
-    /// once. An Err changes nothing.
+    /// Makes an array of so many elements, each with what it keeps of `zero`, and gives its number. The zeros are
+    /// written once. An Err changes nothing.
     pub fn array(&mut self, kind: u32, zero: Datum, len: u32) -> Result<u32, HeapError>
         ensures full { IsFullExactly result (ExceedsLimit (1 + len) self.old) }
         ensures number { IfOk result (λ n. n ≡ next_number self.old) }
@@ -274,8 +275,8 @@ impl Heap {
         Ok(number)
     }
 
-    /// The number of the text that was made for equal units, or of the one that is made for these now (JVM Specification 5.1,
-    /// string literals). `kind` is that of the class String. An Err changes nothing.
+    /// The number of the text that was made for equal units, or of the one that is made for these now (JVM
+    /// Specification 5.1, string literals). `kind` is that of the class String. An Err changes nothing.
     pub fn intern(&mut self, kind: u32, units: &[u16]) -> Result<u32, HeapError>
         ensures full { IsFullExactly result (CannotIntern units.now self.old) }
         ensures number { IfOk result (λ n. n ≡ interned_number units.now self.old) }
@@ -289,7 +290,8 @@ impl Heap {
     }
 
     /// Puts a value into a field or an element. False, with nothing changed, where there is no such object or slot. An
-    /// array keeps of the value what its elements keep: of a boolean the lowest bit, of a byte, char or short the low bits.
+    /// array keeps of the value what its elements keep: of a boolean the lowest bit, of a byte, char or short the low
+    /// bits.
     #[inline(always)]
     pub fn put(&mut self, object: u32, slot: u32, value: Datum) -> bool
         ensures answer { result ≡ has_slot_at object slot self.old }
@@ -327,8 +329,8 @@ impl Heap {
         Ok(())
     }
 
-    /// Gives a text these units, which are not copied, in place of its own. It takes as many slots as it gets longer. An
-    /// Err changes nothing.
+    /// Gives a text these units, which are not copied, in place of its own. It takes as many slots as it gets longer.
+    /// An Err changes nothing.
     pub fn replace(&mut self, object: u32, units: Seq<u16>) -> Result<(), HeapError>
         requires { IsText object self.old }
         ensures full { IsFullExactly result (GrowsPastLimit object units self.old) }

@@ -9,8 +9,8 @@ use jf_bytes::NoMemory;
 use std::alloc::Global;
 use std::marker::Model;
 
-/// The units of each interned text with the number of its object, in order. A look-up hashes the units. The object's own
-/// units may change later; those that stand here do not.
+/// The units of each interned text with the number of its object, in order. A look-up hashes the units. The object's
+/// own units may change later; those that stand here do not.
 #[derive(Drop)]
 pub struct Interned {
     numbers: IndexMap<Vec<u16>, u32>,

@@ -11,8 +11,8 @@ use crate::element::Element;
 use jf_bytes::Seq;
 use std::alloc::AllocError;
 
-/// An object: an instance with its class and its fields, an array, or a text with its class and its UTF-16 units. Classes
-/// are told by their kinds.
+/// An object: an instance with its class and its fields, an array, or a text with its class and its UTF-16 units.
+/// Classes are told by their kinds.
 #[derive(Drop)]
 pub enum Object {
     Instance(u32, Seq<Datum>),

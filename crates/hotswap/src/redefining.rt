@@ -31,9 +31,9 @@ fn image_for(alloc: Global, vm: &Vm, class: u32, bytes: &[u8]) -> Result<ClassFi
     }
 }
 
-/// Makes the versions of the image that the bytes spell current, for all methods of the class that have Code: what begins from then on
-/// begins in them, and what is live stays in the version in which it began. Where the bytes are no class file, or of another shape than the
-/// class, that is told and nothing has changed; so it is where memory ran out.
+/// Makes the versions of the image that the bytes spell current, for all methods of the class that have Code: what
+/// begins from then on begins in them, and what is live stays in the version in which it began. Where the bytes are no
+/// class file, or of another shape than the class, that is told and nothing has changed; so it is where memory ran out.
 pub fn redefine(
     alloc: Global,
     vm: &mut Vm,

@@ -1,5 +1,5 @@
--- Whether a class can be rewritten does not depend on the numbers of its methods, nor on which marks other than Off those with Code
--- have: all probes have the same lengths.
+-- Whether a class can be rewritten does not depend on the numbers of its methods, nor on which marks other than Off
+-- those with Code have: all probes have the same lengths.
 use Rattle.std.proofs.Common.{◌≡◌, ◌≢◌, ℕ, ◌+◌, ◌*◌, Bool, true, false, cond, ltb, List, [], ◌∷◌, ◌++◌, length, Option, Some, None, refl, sym, ap, subst, ◌∙◌, arith}
 use Rattle.std.specs.Prelude.{map, is_some, Result, Err}
 use Rattle.std.specs.List.{flat_map}

@@ -1,6 +1,6 @@
--- The definitions of a version's tables, computed: on the code of P1's method f (iload_0, iconst_1, iadd, ireturn), whose version has
--- its added handler at 16, and on that of a method h (0 iload_0, 1 ifeq 6, 4 iconst_1, 5 ireturn, 6 iconst_2, 7 ireturn), whose
--- version has it at 26.
+-- The definitions of a version's tables, computed: on the code of P1's method f (iload_0, iconst_1, iadd, ireturn),
+-- whose version has its added handler at 16, and on that of a method h (0 iload_0, 1 ifeq 6, 4 iconst_1, 5 ireturn, 6
+-- iconst_2, 7 ireturn), whose version has it at 26.
 use Rattle.std.specs.Prelude.{◌≡◌, ℕ, Bool, true, false, [], ◌∷◌, Some, None, codes, refl}
 use Rattle.const_pool.specs.declared.class.CodeAttribute.{CodeAttribute}
 use Rattle.const_pool.specs.declared.pool.Const.TheVariants.{Gap, Utf8}

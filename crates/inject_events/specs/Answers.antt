@@ -63,7 +63,7 @@ IsImageAnswer (Ok made) refused wanted = (refused ≡ None) × (made ≡ wanted)
 IsImageAnswer (Err (inject.NotProfilable position why)) refused wanted = refused ≡ Some (position, why)
 IsImageAnswer (Err inject.NoMemory) refused wanted = Unit {0}
 
--- Each method that has Code could be rewritten, as admission asks of a class. The numbers of the methods and which marks they have
--- make no difference.
+-- Each method that has Code could be rewritten, as admission asks of a class. The numbers of the methods and which
+-- marks they have make no difference.
 abbrev pub IsProfilable : ClassFile → Type 0
 IsProfilable c = refused_of c 0 (all_plain c) ≡ None

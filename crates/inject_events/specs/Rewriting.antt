@@ -1,5 +1,5 @@
--- Versions and images of any class, as functions: what becomes of a method's Code, of a method and of the class, and the first
--- limit that is passed (JVM Specification 4.1, 4.7.3).
+-- Versions and images of any class, as functions: what becomes of a method's Code, of a method and of the class, and
+-- the first limit that is passed (JVM Specification 4.1, 4.7.3).
 use Rattle.std.specs.Prelude.{ℕ, zero, suc, ◌+◌, Bool, List, [], ◌∷◌, length, map, max, Option, Some, None, is_some, nat_lt, ◌==◌, if◌then◌else◌}
 use Rattle.std.specs.Option.{option_map_or, option_or}
 use Rattle.const_pool.specs.declared.class.ClassFile.{ClassFile}
@@ -39,8 +39,8 @@ instrs_in bytes = instrs_from (length bytes) bytes 0
 
 -- ---- the version of a Code
 
--- The Code around code that was laid out with these homes. Its handlers are the old ones by homes, and then the one that takes what
--- leaves the old code.
+-- The Code around code that was laid out with these homes. Its handlers are the old ones by homes, and then the one
+-- that takes what leaves the old code.
 abbrev pub code_around : Setting → CodeAttribute → List ℕ → Homes → CodeAttribute
 code_around s old code homes = record old {
   max_stack = max (old.max_stack + 1) 2;
@@ -154,7 +154,8 @@ image_of_marked c first marks = image_with_methods c (setting_of c) (methods_of_
 abbrev pub original_of : ClassFile → Image
 original_of c = record { class = c; homes = map (λ m. None) c.methods }
 
--- The image of a class for these marks, whose first method with Code has this number: the class itself where no method is marked.
+-- The image of a class for these marks, whose first method with Code has this number: the class itself where no method
+-- is marked.
 abbrev pub image_of : ClassFile → ℕ → List Mark → Image
 image_of c first marks = if all_off marks then original_of c else image_of_marked c first marks
 

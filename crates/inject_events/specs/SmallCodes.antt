@@ -1,4 +1,5 @@
--- Classes whose codes are so short that each can be rewritten, whatever stands in them (JVM Specification 4.7.3): told by lengths alone.
+-- Classes whose codes are so short that each can be rewritten, whatever stands in them (JVM Specification 4.7.3): told
+-- by lengths alone.
 use Rattle.std.specs.Prelude.{◌+◌, Bool, true, List, length, nat_le, nat_lt, ◌&&◌}
 use Rattle.std.specs.List.{flat_map, list_all}
 use Rattle.std.specs.Option.{option_map_or}
@@ -9,8 +10,8 @@ use Rattle.const_pool.specs.declared.pool.Const.{Const}
 use Rattle.const_pool.specs.ClassFile.{raw_bytes}
 use Rattle.jvm_model.specs.Basis.Methods.{code_of}
 
--- one more operand and one more handler can be counted; a version of the code is shorter than a branch reaches; the attributes spell fewer
--- frames than a table can have
+-- one more operand and one more handler can be counted; a version of the code is shorter than a branch reaches; the
+-- attributes spell fewer frames than a table can have
 abbrev pub is_small_code : CodeAttribute → Bool
 is_small_code code =
     nat_lt code.max_stack 65535 && (nat_lt (length code.handlers) 65535

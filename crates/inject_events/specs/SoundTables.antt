@@ -1,5 +1,5 @@
--- Tables of a Code that keep to their grammars, as admission asks, and what becomes of them in a version (JVM Specification 4.7.4,
--- 4.7.8, 4.7.9, 4.7.10).
+-- Tables of a Code that keep to their grammars, as admission asks, and what becomes of them in a version (JVM
+-- Specification 4.7.4, 4.7.8, 4.7.9, 4.7.10).
 use Rattle.std.specs.Prelude.{◌≡◌, ℕ, List, length, map, true, None, Ok, is_ok}
 use Rattle.std.specs.List.{AllByRecursion}
 use Rattle.const_pool.specs.declared.class.CodeAttribute.{CodeAttribute}

@@ -1,5 +1,5 @@
--- The tables of a Code in its version, by what the versions of a class have in common: an image has each so (proofs/Images). And tables
--- without room.
+-- The tables of a Code in its version, by what the versions of a class have in common: an image has each so
+-- (proofs/Images). And tables without room.
 use Rattle.std.specs.Prelude.{ℕ, Bool, true, false, not, List, [], ◌∷◌, ◌++◌, length, map, Result, Ok, Err, codes, ◌==◌, ◌&&◌, ◌||◌, if◌then◌else◌}
 use Rattle.std.specs.List.{list_any}
 use Rattle.const_pool.specs.declared.class.Raw.{Raw}

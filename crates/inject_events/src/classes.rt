@@ -111,9 +111,10 @@ fn image_of(
     }
 }
 
-/// The image of a class for these marks, one for each method, or the position of the first marked method that cannot be rewritten,
-/// with its first cause. `first` is the number of the class's first method that has Code. The image is the class itself where no
-/// method is marked; of a marked method it has the version, with its handlers, frames and debug tables moved, and its homes.
+/// The image of a class for these marks, one for each method, or the position of the first marked method that cannot be
+/// rewritten, with its first cause. `first` is the number of the class's first method that has Code. The image is the
+/// class itself where no method is marked; of a marked method it has the version, with its handlers, frames and debug
+/// tables moved, and its homes.
 pub fn instrument(
     alloc: Global,
     class: &ClassFile,

@@ -1,4 +1,5 @@
-//! The StackMapTable of a version (JVM Specification 4.7.4): the old frames by homes, and one for the handler that is added.
+//! The StackMapTable of a version (JVM Specification 4.7.4): the old frames by homes, and one for the handler that is
+//! added.
 
 ghost use Rattle.std.specs.Prelude.{◌≡◌, ◌∷◌, [], None, All, IfOk};
 ghost use Rattle.std.specs.List.Sorted.{IsStrictlyIncreasing};

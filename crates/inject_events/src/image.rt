@@ -11,8 +11,8 @@ use jf_bytes::{NoMemory, Seq};
 use jvm_model::Mark;
 use std::alloc::Global;
 
-/// A rewritten class, and for each of its methods where the original offsets come to stand: none where the method is the
-/// original.
+/// A rewritten class, and for each of its methods where the original offsets come to stand: none where the method is
+/// the original.
 #[derive(Debug, Drop)]
 pub struct Image {
     pub class: ClassFile,

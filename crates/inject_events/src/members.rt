@@ -68,7 +68,8 @@ fn image_of_method(
     }
 }
 
-/// The images of methods, of which those that have code are numbered from `first` on, or the first method that has none.
+/// The images of methods, of which those that have code are numbered from `first` on, or the first method that has
+/// none.
 pub(crate) fn images_from(
     alloc: Global,
     setting: &Setting,

@@ -2,7 +2,8 @@
 
 use const_pool::Tail;
 
-/// The pool tail of the image, and whether a StackMapTable counts in this class: in major 50 alone (JVM Specification 4.7.4).
+/// The pool tail of the image, and whether a StackMapTable counts in this class: in major 50 alone (JVM Specification
+/// 4.7.4).
 #[derive(Debug, Drop)]
 pub struct Setting {
     pub framed: bool,

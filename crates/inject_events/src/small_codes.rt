@@ -59,8 +59,8 @@ fn has_small_codes(class: &ClassFile) -> bool
     has_room(&class.pool) && have_small_bodies(class.methods.as_slice())
 }
 
-/// Whether each Code of the class is so short that it can be rewritten whatever is in it. Nearly all classes are such; of another one
-/// `instrument` tells whether it can be rewritten.
+/// Whether each Code of the class is so short that it can be rewritten whatever is in it. Nearly all classes are such;
+/// of another one `instrument` tells whether it can be rewritten.
 pub fn is_surely_profilable(class: &ClassFile) -> bool
     requires class { IsReadableClass class.now }
     ensures small { result ≡ has_small_codes class.now }

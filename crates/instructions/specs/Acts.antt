@@ -1,5 +1,5 @@
--- What becomes of a state by the line of its current frame (JVM Specification 2.6.4, 2.6.5, 2.10, 6.5): what `applies` of the model
--- says of the instruction that the line stands for. From the state without that frame, and the frame.
+-- What becomes of a state by the line of its current frame (JVM Specification 2.6.4, 2.6.5, 2.10, 6.5): what `applies`
+-- of the model says of the instruction that the line stands for. From the state without that frame, and the frame.
 use Rattle.std.specs.Prelude.{◌≡◌, ℕ, Bool, true, false, ◌&&◌, ◌||◌, is_some, is_none, List, [], ◌∷◌, ◌++◌, Option, Some, None, Result, OnOk}
 use Rattle.jf_bytes.specs.declared.error.NoMemory.{NoMemory}
 use Rattle.std.specs.Option.{option_map_or}

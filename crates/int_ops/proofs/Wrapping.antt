@@ -80,7 +80,8 @@ int_wrap-low_16 a f = int_wrap-low_bits w16 w32 (2 ^ 16) a refl f
 pub int_wrap-low_32 : (a : ℤ) → FitsSigned w64 a → cast_signed w32 (bit_and (cast_unsigned w64 a) 4294967295) ≡ int_wrap w32 a
 int_wrap-low_32 a f = int_wrap-low_bits w32 w64 (2 ^ 32) a refl f
 
--- what the functions' attributes name, since a dash cannot stand there: shl; div; the laws of ushr and of division; l2i, i2b and i2s
+-- what the functions' attributes name, since a dash cannot stand there: shl; div; the laws of ushr and of division;
+-- l2i, i2b and i2s
 pub ruleset shifts = (to_z-of_z, product-cast_unsigned)
 
 pub ruleset quotients = (to_z-of_z, wrapped_quotient_is)

@@ -1,7 +1,7 @@
--- What the int and long instructions of the JVM give, as whole numbers (JVM Specification, SE 7, 2.11.3, 2.11.4 and chapter 6).
--- Each meaning is stated once, over the width: `w32` is an int and `w64` a long.
--- Two's complement is std's: `int_wrap w z` is the one number of the width that differs from z by a multiple of 2 ^ (bits w),
--- and `cast_unsigned w a` is the unsigned value of the bits that stand for a.
+-- What the int and long instructions of the JVM give, as whole numbers (JVM Specification, SE 7, 2.11.3, 2.11.4 and
+-- chapter 6). Each meaning is stated once, over the width: `w32` is an int and `w64` a long. Two's complement is std's:
+-- `int_wrap w z` is the one number of the width that differs from z by a multiple of 2 ^ (bits w), and `cast_unsigned w
+-- a` is the unsigned value of the bits that stand for a.
 use Rattle.std.specs.Prelude.{ℕ, ◌-◌, ◌/◌, ◌%◌, ◌^◌, ℤ, pos, ◌+ℤ◌, ◌-ℤ◌, ◌*ℤ◌, neg_ℤ, int_div}
 use Rattle.std.specs.Int.{Width, w32, cast_signed, cast_unsigned, int_rem_euclid, int_shr, int_signum, int_wrap}
 use mir.Val.{bits}

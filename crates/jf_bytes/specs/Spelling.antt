@@ -18,8 +18,8 @@ pub record GoesOn (front : List ℕ) : Type 0 where
   pub units : List ℕ
   pub spelling : IsSpelling (front ++ more) units
 
--- The bytes spell no text. Some text begins with those before `at`, and none with those and the byte there, where there is one.
--- So where `at` is the length, the bytes are the front of a text that ends early.
+-- The bytes spell no text. Some text begins with those before `at`, and none with those and the byte there, where there
+-- is one. So where `at` is the length, the bytes are the front of a text that ends early.
 pub record IsFirstBad (bytes : List ℕ) (at : ℕ) : Type 0 where
   pub within : at ≤ length bytes
   pub no_text : (units : List ℕ) → ¬ (IsSpelling bytes units)

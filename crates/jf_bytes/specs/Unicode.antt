@@ -5,8 +5,8 @@ use Rattle.std.specs.Str.{chars}
 use Rattle.std.specs.Char.Escape.{encode_utf16}
 use Rattle.std.specs.Char.Utf16.{utf16_chars}
 
--- The characters of a text. A unit D800 to DBFF and a unit DC00 to DFFF behind it are one character, and each other unit
--- from D800 to DFFF, which has no partner, is shown as `?`.
+-- The characters of a text. A unit D800 to DBFF and a unit DC00 to DFFF behind it are one character, and each other
+-- unit from D800 to DFFF, which has no partner, is shown as `?`.
 abbrev pub shown_chars : List ℕ → List ℕ
 shown_chars units = map (λ c. unwrap_or c 63) (utf16_chars units)
 

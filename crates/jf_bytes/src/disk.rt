@@ -159,8 +159,8 @@ impl<R: rt::Files> Sink for LateFile<R> {
 
     ghost faults = { λ f. f.faults };
 
-    /// Writes until nothing is left. A file that can't be made is a fault, and so is a write that takes nothing of what is
-    /// left. After a fault the next put goes on with what was made.
+    /// Writes until nothing is left. A file that can't be made is a fault, and so is a write that takes nothing of what
+    /// is left. After a fault the next put goes on with what was made.
     fn put(&mut self, bytes: &[u8]) -> Result<(), Failed>
         ensures cause { HasCause self.old.faults self.new.faults result }
         ensures name { self.new.name ≡ self.old.name }

@@ -121,9 +121,10 @@ fn front_unit(bytes: &[u8]) -> Result<u16, usize>
     }
 }
 
-/// The text that the bytes of a Utf8 constant spell (JVM Specification 4.4.7). U+0000 is C0 80, a supplementary character
-/// is two surrogates of three bytes each, and every other overlong form, the byte 0 and the bytes F0 to FF are refused.
-/// The offset in `BadUtf8` counts from the first of these bytes. What is given here `to_modified` gives back.
+/// The text that the bytes of a Utf8 constant spell (JVM Specification 4.4.7). U+0000 is C0 80, a supplementary
+/// character is two surrogates of three bytes each, and every other overlong form, the byte 0 and the bytes F0 to FF
+/// are refused. The offset in `BadUtf8` counts from the first of these bytes. What is given here `to_modified` gives
+/// back.
 pub fn from_modified(alloc: Global, bytes: &[u8]) -> Result<Text16, TextError>
     ensures found { IfOk result (λ text. IsSpelling bytes.now text) }
     ensures only { (units : List ℕ) → IsSpelling bytes.now units

@@ -1,9 +1,9 @@
 //! Where bytes come from and where they go: sources, sinks and files, as their callers see them.
 //!
-//! Each object may tell what it has left, what it has taken or which files it holds; one that does not know tells nothing.
-//! Each has a count of faults, a u64 that never falls. A call that answers `Ok` leaves the count as it was.
-//! A call answers `Failed` only where the count rose in it, or where the count stands at the greatest u64, from which
-//! it can't rise. Want of memory is no fault.
+//! Each object may tell what it has left, what it has taken or which files it holds; one that does not know tells
+//! nothing. Each has a count of faults, a u64 that never falls. A call that answers `Ok` leaves the count as it was. A
+//! call answers `Failed` only where the count rose in it, or where the count stands at the greatest u64, from which it
+//! can't rise. Want of memory is no fault.
 
 ghost use Rattle.std.specs.Prelude.{◌≡◌, ◌<◌, ◌≤◌, ◌↔◌, ℕ, List, [], length, IfOk, IfSome, OnOk, OnErr, IsErr};
 ghost use Rattle.std.specs.declared.option.Option.{Option};

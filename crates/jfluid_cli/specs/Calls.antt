@@ -72,7 +72,8 @@ pub record IsTrueOf (c : Call) : Type 0 where
 
 -- ---- a run
 
--- The report of a run was put, its tree or the sums over it, with the status of its ending, or the put failed, with status 8.
+-- The report of a run was put, its tree or the sums over it, with the status of its ending, or the put failed, with
+-- status 8.
 pub record IsReported (summary : Bool) (v : Profiling) (old new : SinkView) (status : ℕ) : Type 0 where
   pub is_one : is_run status ≡ true
   pub known : is_status status ≡ true

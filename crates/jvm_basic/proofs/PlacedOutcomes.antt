@@ -1,4 +1,5 @@
--- A rule of the model with its places put in: by the instruction's own targets it is what it is by those that its family has.
+-- A rule of the model with its places put in: by the instruction's own targets it is what it is by those that its
+-- family has.
 use Rattle.std.proofs.Common.{◌≡◌, ℕ, Bool, true, false, List, [], ◌∷◌, ℤ, refl, ap}
 use Rattle.std.specs.Prelude.{Option, Some, None, slice_get, ◌&&◌, if◌then◌else◌}
 use Rattle.std.specs.Option.{option_map, option_and_then}

@@ -1,4 +1,5 @@
--- Instructions as they are run (JVM Specification 6.5): the form that an instruction of a family has, and the rule of that form.
+-- Instructions as they are run (JVM Specification 6.5): the form that an instruction of a family has, and the rule of
+-- that form.
 use Rattle.std.specs.Prelude.{ℕ, Bool, true, false, Some}
 use Rattle.heap_objects.specs.declared.datum.Datum.TheVariants as datum
 use Rattle.heap_objects.specs.declared.Value.TheVariants.{Int}

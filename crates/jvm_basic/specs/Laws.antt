@@ -20,8 +20,9 @@ is_no_instruction Wide = true
 is_no_instruction Unknown = true
 is_no_instruction _ = false
 
--- The opcodes that a frame does not do by itself (6.5): array loads, array stores, returns and what names a member or a class up to
--- monitorexit, multianewarray; what takes or gives a float or a double; and what is no instruction, as `wide` alone.
+-- The opcodes that a frame does not do by itself (6.5): array loads, array stores, returns and what names a member or a
+-- class up to monitorexit, multianewarray; what takes or gives a float or a double; and what is no instruction, as
+-- `wide` alone.
 abbrev pub is_elsewhere : ℕ → Bool
 is_elsewhere op =
     is_in_range 46 53 op || (is_in_range 79 86 op || (is_in_range 172 195 op
@@ -67,7 +68,8 @@ has_operand Increment a = is_some (increment_in a)
 has_operand BranchTarget a = is_some (target_in a)
 has_operand Choice a = is_some (keys_in a)
 
--- an instruction that stands in a code has the operand that its family needs, so that its rule never breaks for want of one
+-- an instruction that stands in a code has the operand that its family needs, so that its rule never breaks for want of
+-- one
 abbrev pub HasItsOperand : Instr → Type 0
 HasItsOperand i =
     (bytes : List ℕ) (at : ℕ) → instruction_at bytes at ≡ Some i → IsTrue (has_operand (need_of (family_of i.op)) i.arg)

@@ -1,5 +1,5 @@
--- What an instruction needs of its frame, said apart from what it does (JVM Specification 4.10, 6.5): the kinds of its topmost
--- operands and of its local. Where it is missing, or the operands would be too deep, the code is unverifiable.
+-- What an instruction needs of its frame, said apart from what it does (JVM Specification 4.10, 6.5): the kinds of its
+-- topmost operands and of its local. Where it is missing, or the operands would be too deep, the code is unverifiable.
 use Rattle.std.specs.Prelude.{ℕ, Bool, true, false, not, List, [], ◌∷◌, Option, Some, None, is_some, ◌&&◌, ◌||◌}
 use Rattle.std.specs.List.{list_any}
 use Rattle.std.specs.Option.{option_and_then, option_map}

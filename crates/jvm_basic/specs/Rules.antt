@@ -1,4 +1,5 @@
--- The rules of jvm_model with places put in (JVM Specification 2.11, 6.5): the place behind the instruction, and its targets.
+-- The rules of jvm_model with places put in (JVM Specification 2.11, 6.5): the place behind the instruction, and its
+-- targets.
 use Rattle.std.specs.Prelude.{ℕ, false, List, [], ◌∷◌, Option, Some, None, unwrap_or, position, slice_get, ℤ}
 use Rattle.std.specs.Option.{option_and_then}
 use Rattle.heap_objects.specs.declared.datum.Datum.TheVariants as datum
@@ -82,8 +83,8 @@ abbrev pub rule_by : Family → Arg → Option Datum → ℕ → Rule
 rule_by family.NotLocal a c next l o = Leaves
 rule_by f a c next l o = needs (local_of f a c) (λ i. going (LocalRules.within i) next (targets_of a)) l o
 
--- With the constant that an ldc has, and the place behind the instruction. An operand of another form than the instruction's
--- breaks; decoded code has none.
+-- With the constant that an ldc has, and the place behind the instruction. An operand of another form than the
+-- instruction's breaks; decoded code has none.
 abbrev pub rule_of : Instr → Option Value → ℕ → Rule
 rule_of i c next = rule_by (family_of i.op) i.arg (option_and_then datum_in c) next
 

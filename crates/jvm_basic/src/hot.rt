@@ -8,8 +8,8 @@ use const_pool::Kind;
 use heap_objects::Datum;
 use jvm_model::{Comparison, Family, IntOperator, Test};
 
-/// What an instruction does, as it is run. The place behind it comes first and its operands are few, so that each takes 16
-/// bytes or fewer. An instruction of no such form is cold: it is done by its family.
+/// What an instruction does, as it is run. The place behind it comes first and its operands are few, so that each takes
+/// 16 bytes or fewer. An instruction of no such form is cold: it is done by its family.
 #[derive(Clone, Copy)]
 pub enum Hot {
     Cold,

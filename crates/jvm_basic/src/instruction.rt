@@ -127,8 +127,8 @@ pub fn basic_by(
     do_family(family, &instr.arg, constant, next, frames)
 }
 
-/// Does one instruction as far as its frame goes (JVM Specification 2.11, 6.5): the constant is that of an ldc, and `next` the
-/// offset behind the instruction. An effect other than Next leaves the frames as they were.
+/// Does one instruction as far as its frame goes (JVM Specification 2.11, 6.5): the constant is that of an ldc, and
+/// `next` the offset behind the instruction. An effect other than Next leaves the frames as they were.
 pub fn basic(instr: &Instr, constant: Option<Value>, next: u16, frames: &mut Frames) -> Effect
     ensures effect { result ≡ effect_of (rule_of instr.now constant next) frames.old }
     ensures frames { frames.new ≡ after (rule_of instr.now constant next) frames.old }

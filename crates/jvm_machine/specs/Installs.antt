@@ -14,8 +14,8 @@ use Rattle.jvm_model.specs.Rewriting.StandsFor.{mark_at}
 use Rattle.jvm_model.specs.Profiling.Swaps.{first_number}
 use Rattle.jvm_machine.specs.View.{View}
 
--- What images are made of: its classes are class files, its methods are those that have Code, and each of their instructions does something
--- that the rules of instructions know. A sound program is one.
+-- What images are made of: its classes are class files, its methods are those that have Code, and each of their
+-- instructions does something that the rules of instructions know. A sound program is one.
 pub record IsFormed (p : Program) : Type 0 where
   pub formed : AllByRecursion IsClassFile p.classes
   pub methods : p.methods ≡ methods_numbered p.classes

@@ -74,7 +74,8 @@ pub record IsStarting (w : Setup) (hand : Hand) (s : State) : Type 0 where
 abbrev pub IsSoundOnce : Setup → Hand → State → Type 0
 IsSoundOnce w hand s = IsSoundIn w s ⊎ IsStarting w hand s
 
--- Between steps it stands for the run's state, and in a step the rest of it is in hand. Before the start nothing was done.
+-- Between steps it stands for the run's state, and in a step the rest of it is in hand. Before the start nothing was
+-- done.
 pub record IsWhole (w : Setup) (homes : ℕ → ℕ → ℕ) (hand : Hand) (v : View) (s : State) : Type 0 where
   pub stands : is_resting v ≡ true → v.started ≡ true → Stands w homes s (run_state v)
   pub rests : is_resting v ≡ true → v.started ≡ true → IsSoundIn w s
@@ -95,8 +96,8 @@ pub record IsMachine (w : Setup) (hand : Hand) (v : View) (s : State) : Type 0 w
   pub before_the_run : v.started ≡ false → IsBeforeTheRun v
   pub whole : v.broken ≡ false → IsWhole w homes hand v s
 
--- Its code and its runtime are of one program. Unless memory has run out what is kept of names is what they come to, and no version is
--- held needlessly.
+-- Its code and its runtime are of one program. Unless memory has run out what is kept of names is what they come to,
+-- and no version is held needlessly.
 pub record Keeps (o : OriginalsView) (r : RuntimeView) (hand : Hand) (started broken : Bool) (clock : ℕ) (s : State) : Type 0 where
   pub machine : IsMachine (setup_in r o) hand (state_seen (setup_in r o) s started broken clock hand) s
   pub program : r.world.program ≡ o.program

@@ -1,4 +1,5 @@
--- The probe from which an event comes: in the version that a method has for a mark it stands where the activation's frame stands when it tells.
+-- The probe from which an event comes: in the version that a method has for a mark it stands where the activation's
+-- frame stands when it tells.
 use Rattle.std.specs.Prelude.{◌≡◌, ℕ, false, true, List, ◌∷◌, length, take, drop, Some}
 use Rattle.std.specs.Option.{option_map_or}
 use Rattle.const_pool.specs.declared.class.CodeAttribute.{CodeAttribute}
@@ -40,8 +41,8 @@ probe_index count Unwind = unwind_index count
 
 -- ---- where it stands
 
--- At the code's start where a method begins; at the home of a return at this offset of the original code; and behind the code, to where the version's
--- last handler leads whatever leaves it.
+-- At the code's start where a method begins; at the home of a return at this offset of the original code; and behind
+-- the code, to where the version's last handler leads whatever leaves it.
 abbrev pub probe_place : EventKind → ℕ → CodeAttribute → Homes → ℕ
 probe_place Root at old homes = 0
 probe_place Enter at old homes = 0

@@ -63,7 +63,8 @@ pub record EndsBehind (old : View) (n : ℕ) (turn : Turn) (new : View) : Type 0
 
 -- ---- a call
 
--- What as many calls of `step` do, up to the first one that tells more than that a step is done: the last of them answers.
+-- What as many calls of `step` do, up to the first one that tells more than that a step is done: the last of them
+-- answers.
 pub record RunsOn (old : View) (most : ℕ) (turn : Turn) (new : View) : Type 0 where
   pub steps : ℕ
   pub between : View

@@ -12,10 +12,11 @@ use Rattle.jvm_model.specs.Running.Run.{before, run, turn}
 use Rattle.jvm_model.specs.Rewriting.StandsFor.{mark_at}
 use Rattle.jvm_model.specs.Turns.Told.{Held, all_held}
 
--- A machine of a program, with its input; the marks of the versions in which methods begin now, by the methods' numbers; whether it has made
--- the start; whether memory has run out; the number of steps begun after the start; how many changes of the step in hand are behind it, its load
--- among them, and whether the probe of the end that comes next has told; the live activations, each with the mark of its version; and whether a
--- version is held in which its method does not begin, and that no live activation runs.
+-- A machine of a program, with its input; the marks of the versions in which methods begin now, by the methods'
+-- numbers; whether it has made the start; whether memory has run out; the number of steps begun after the start; how
+-- many changes of the step in hand are behind it, its load among them, and whether the probe of the end that comes next
+-- has told; the live activations, each with the mark of its version; and whether a version is held in which its method
+-- does not begin, and that no live activation runs.
 pub record View : Type 0 where
   pub program : Program
   pub input : List ℕ

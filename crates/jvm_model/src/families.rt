@@ -1,4 +1,5 @@
-//! The families by opcode. A row reads `[mnemonic family]`, and `-` is an opcode that sees more than its frame, or none.
+//! The families by opcode. A row reads `[mnemonic family]`, and `-` is an opcode that sees more than its frame, or
+//! none.
 
 ghost use Rattle.std.specs.Prelude.{◌≡◌, ◌<◌, Some, slice_get};
 ghost use Rattle.jvm_model.specs.Basis.Families.{family_of};

@@ -1,5 +1,5 @@
-//! What an instruction does within its frame, by families (JVM Specification 2.11, 6.5): those of one family differ in a
-//! constant, a kind or an operator.
+//! What an instruction does within its frame, by families (JVM Specification 2.11, 6.5): those of one family differ in
+//! a constant, a kind or an operator.
 
 use const_pool::Kind;
 use heap_objects::Datum;

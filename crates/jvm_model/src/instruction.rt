@@ -28,8 +28,8 @@ impl Model for MemberName {
     ghost view = { λ m. reference_to m.class m.name m.descriptor };
 }
 
-/// A method as a class file names it, with the kinds of its parameters, which its descriptor tells; None where it is no method's
-/// descriptor (4.3.3). A clause sees the names.
+/// A method as a class file names it, with the kinds of its parameters, which its descriptor tells; None where it is no
+/// method's descriptor (4.3.3). A clause sees the names.
 #[derive(Debug, Drop)]
 pub struct MethodName {
     member: MemberName,
@@ -48,9 +48,10 @@ impl Model for MethodName {
     ghost invariant = { λ m. m.params ≡ descriptor_params m.member.member.descriptor };
 }
 
-/// An instruction that names a class, a field or a method, with the names that it gives: what they refer to is looked up in
-/// the program when it is executed. Of invokespecial there is the name of the class in which it stands, and whether it names
-/// an interface's method; of multianewarray how many dimensions are given; LdcClass is ldc, ldc_w of a Class.
+/// An instruction that names a class, a field or a method, with the names that it gives: what they refer to is looked
+/// up in the program when it is executed. Of invokespecial there is the name of the class in which it stands, and
+/// whether it names an interface's method; of multianewarray how many dimensions are given; LdcClass is ldc, ldc_w of a
+/// Class.
 #[derive(Debug, Drop)]
 pub enum SymbolicReference {
     New(Text16),
@@ -69,16 +70,16 @@ pub enum SymbolicReference {
     LdcClass(Text16),
 }
 
-/// The numbers that a switch tells apart, in the order of the targets behind the default: so many from the lowest one on, or
-/// these.
+/// The numbers that a switch tells apart, in the order of the targets behind the default: so many from the lowest one
+/// on, or these.
 #[derive(Drop)]
 pub enum Keys {
     Consecutive(i32, u32),
     Listed(Seq<i32>),
 }
 
-/// An instruction that sees nothing but the locals and operands of its frame, in families: those of one family differ in a
-/// constant, a kind or an operator.
+/// An instruction that sees nothing but the locals and operands of its frame, in families: those of one family differ
+/// in a constant, a kind or an operator.
 #[derive(Drop)]
 pub enum Local {
     Nop,

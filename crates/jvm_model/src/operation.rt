@@ -22,8 +22,8 @@ pub enum Resolved {
     Invokestatic(u32),
 }
 
-/// An instruction: what it does, its offset in the original code, and where its frame goes on behind it. Nothing goes on
-/// behind a return.
+/// An instruction: what it does, its offset in the original code, and where its frame goes on behind it. Nothing goes
+/// on behind a return.
 #[derive(Clone, Copy, Debug, PartialEq, Eq)]
 pub struct Line {
     pub operation: Resolved,

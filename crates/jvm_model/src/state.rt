@@ -6,9 +6,9 @@ use jf_bytes::{Seq, Stack};
 use native_effects::Made;
 
 /// A frame (JVM Specification 2.6): the number of its method, the version of it that the frame runs, the place in that
-/// version of the instruction that is executed next (or, while a callee runs, of the invoking one), its locals, of which
-/// each is unwritten at first, its operand stack, the top first, and the sizes of both, which come with the method. Original
-/// code is the version whose number is the method's, and its places are offsets.
+/// version of the instruction that is executed next (or, while a callee runs, of the invoking one), its locals, of
+/// which each is unwritten at first, its operand stack, the top first, and the sizes of both, which come with the
+/// method. Original code is the version whose number is the method's, and its places are offsets.
 #[derive(Debug, Drop)]
 pub struct Frame {
     pub method: u32,
@@ -46,8 +46,9 @@ pub enum Phase {
     Erroneous,
 }
 
-/// What all activations share: the positions of the loaded classes in the order in which they were loaded; the phase and
-/// the static fields of each class; the heap; the Class objects and boxes that are made once; and how many bytes of the input were read.
+/// What all activations share: the positions of the loaded classes in the order in which they were loaded; the phase
+/// and the static fields of each class; the heap; the Class objects and boxes that are made once; and how many bytes of
+/// the input were read.
 #[derive(Drop)]
 pub struct Shared {
     pub loaded: Seq<u32>,

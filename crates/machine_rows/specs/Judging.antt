@@ -11,8 +11,8 @@ use Rattle.machine_rows.specs.Played.{FailsAt, PlaysAll}
 use Rattle.machine_rows.specs.Reading.{AreRead}
 
 -- The row's file has lines that name a program, which admission takes, and each of which says something; and where no
--- line is told, all that they say comes of a machine of that program, one behind the other; where one is, those before it
--- have come so, and of it came what is told.
+-- line is told, all that they say comes of a machine of that program, one behind the other; where one is, those before
+-- it have come so, and of it came what is told.
 pub record IsJudged (told : Option Told) (row : List ℕ) (found : Option Failure) : Type 0 where
   pub text : List ℕ
   pub file : IsFileAt told row text

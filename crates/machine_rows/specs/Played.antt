@@ -125,7 +125,8 @@ pub data Plays : List Line → View → View → Type 0 where
 abbrev pub PlaysAll : List Line → View → Type 0
 PlaysAll lines old = (new : View) × Plays lines old new
 
--- The lines before this one have come, one behind the other, and of it another thing came, which is told with its number.
+-- The lines before this one have come, one behind the other, and of it another thing came, which is told with its
+-- number.
 pub record FailsAt (placed : List Placed) (failure : Failure) (old : View) : Type 0 where
   pub before : List Placed
   pub line : Placed

@@ -1,6 +1,6 @@
-//! Runs rows that are data over the machine. `machine_rows ROW..` takes the file of each row, which names class files and says line by line
-//! what is installed and what each turn of the machine must tell, and prints a line for each: `ROW ok`, or `ROW: ` and what differs; then
-//! how many rows passed. Its status is 0 where all did, and else 1.
+//! Runs rows that are data over the machine. `machine_rows ROW..` takes the file of each row, which names class files
+//! and says line by line what is installed and what each turn of the machine must tell, and prints a line for each:
+//! `ROW ok`, or `ROW: ` and what differs; then how many rows passed. Its status is 0 where all did, and else 1.
 #![tactic(auto)]
 
 mod installing;

@@ -1,5 +1,5 @@
--- A step that loads several classes tells them in one change: the superclass, the interfaces in their order, and then the class itself
--- (JVM Specification 5.3).
+-- A step that loads several classes tells them in one change: the superclass, the interfaces in their order, and then
+-- the class itself (JVM Specification 5.3).
 use Rattle.std.specs.Prelude.{◌≡◌, [], ◌∷◌, codes, refl}
 use Rattle.jvm_model.specs.Basis.Data.{Loads}
 use Rattle.jvm_model.specs.Running.Run.{turn_in}

@@ -1,5 +1,5 @@
--- The definitions of a version and of an image, computed on the worked class P1: its method f has the number 0, and its pool
--- 24 entries.
+-- The definitions of a version and of an image, computed on the worked class P1: its method f has the number 0, and its
+-- pool 24 entries.
 use Rattle.std.specs.Prelude.{◌≡◌, ℕ, List, [], ◌∷◌, length, Some, None, refl}
 use Rattle.std.proofs.Common.{arith}
 use Rattle.op_table.specs.Opcodes.{row_of, groups}

@@ -86,7 +86,8 @@ fn has_tables(image: &Image, method: usize, max_stack: u16, handlers: &[Handler]
     }
 }
 
-/// Whether a method's code has one attribute, a StackMapTable with the frame of the added handler alone, which begins here.
+/// Whether a method's code has one attribute, a StackMapTable with the frame of the added handler alone, which begins
+/// here.
 fn has_one_frame(image: &Image, method: usize, handler: u8) -> bool {
     let frame = [0, 1, 0xFF, 0, handler, 0, 0, 0, 1, 7, 0, 40];
     match code_within(image, method) {

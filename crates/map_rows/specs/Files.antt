@@ -9,8 +9,8 @@ use Rattle.map_rows.specs.declared.reading.Cause.TheVariants.{NotFetched, TooLon
 abbrev pub most : ℕ
 most = 16777216
 
--- When each cause comes for the file of that name: a fetch failed, and that name is the last that did; or the file is too
--- long or no UTF-8, where the files tell their contents. Only a failed fetch changes the count of faults.
+-- When each cause comes for the file of that name: a fetch failed, and that name is the last that did; or the file is
+-- too long or no UTF-8, where the files tell their contents. Only a failed fetch changes the count of faults.
 abbrev pub IsCause : Option Told → List ℕ → ℕ → ℕ → List ℕ → Cause → Type 0
 IsCause told name old new last_failed NotFetched = Rose old new × (last_failed ≡ name)
 IsCause told name old new last_failed TooLong = (new ≡ old) × HasTold told name (λ bytes. most < length bytes)

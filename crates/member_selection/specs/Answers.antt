@@ -1,4 +1,5 @@
--- What an instruction comes to, by the outcome of its rule, and what becomes of the current frame (JVM Specification 2.6, 4.9.2, 6.5).
+-- What an instruction comes to, by the outcome of its rule, and what becomes of the current frame (JVM Specification
+-- 2.6, 4.9.2, 6.5).
 use Rattle.std.specs.Prelude.{ℕ, false, List, Result, Ok, Err, ◌==◌, if◌then◌else◌, Bool}
 use Rattle.base_classes.specs.declared.places.TheConstants.{CLASS_CIRCULARITY_ERROR, NO_CLASS_DEF_FOUND_ERROR, NO_SUCH_FIELD_ERROR, NO_SUCH_METHOD_ERROR}
 use Rattle.frame_stack.specs.FrameLists.{PlacedFrame, FramesView, top_operands}

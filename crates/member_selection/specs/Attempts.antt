@@ -1,4 +1,5 @@
--- An attempt of an instruction that names a class or a member: what it names is loaded before (JVM Specification 5.3, 5.4.3).
+-- An attempt of an instruction that names a class or a member: what it names is loaded before (JVM Specification 5.3,
+-- 5.4.3).
 use Rattle.std.specs.Prelude.{◌≡◌, ℕ, Bool, true, false, List, ◌++◌, length, Option, Some, None, Result, Ok, Err, ◌==◌}
 use Rattle.frame_stack.specs.FrameLists.{FramesView, top_operands}
 use Rattle.jvm_model.specs.declared.program.Program.{Program}

@@ -1,5 +1,5 @@
--- What the names of an instruction came to, as it is kept for its next attempt (JVM Specification 5.4.3). Of all of it only what
--- is loaded may change, and that only grows; so what is known stays known.
+-- What the names of an instruction came to, as it is kept for its next attempt (JVM Specification 5.4.3). Of all of it
+-- only what is loaded may change, and that only grows; so what is known stays known.
 use Rattle.std.specs.Prelude.{◌≡◌, ℕ, Bool, true, false, Some, Ok}
 use Rattle.const_pool.specs.References.{Reference}
 use Rattle.class_linker.specs.Linkers.{LinkerView}

@@ -1,5 +1,5 @@
--- What holds of the objects of a heap and the classes that are loaded: the class of an object is loaded, or that of an array's elements
--- (JVM Specification 5.3, 5.4).
+-- What holds of the objects of a heap and the classes that are loaded: the class of an object is loaded, or that of an
+-- array's elements (JVM Specification 5.3, 5.4).
 use Rattle.std.specs.Prelude.{◌≡◌, ◌<◌, ◌≤◌, ◌/◌, ℕ, List, Option, Some, ◌&&◌, Bool}
 use Rattle.std.specs.Option.{option_map_or}
 use Rattle.std.specs.List.{AllByRecursion}

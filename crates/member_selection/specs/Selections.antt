@@ -1,4 +1,5 @@
--- What was selected for receivers, kept for the whole program (JVM Specification 5.4.6). Nothing of it is about what is loaded.
+-- What was selected for receivers, kept for the whole program (JVM Specification 5.4.6). Nothing of it is about what is
+-- loaded.
 use Rattle.std.specs.Prelude.{◌≡◌, ℕ, Bool, true, false, List, Option, Some, slice_get}
 use Rattle.jvm_model.specs.declared.program.Program.{Program}
 use Rattle.jvm_model.specs.Instructions.InvocationRules.{Selecting, Virtual, OfInterface, selected_by}

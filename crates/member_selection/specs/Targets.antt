@@ -1,5 +1,5 @@
--- What an invocation comes to before anything is changed (JVM Specification 6.5): the method that was selected and the arguments, or what
--- is asked for where a step is refused.
+-- What an invocation comes to before anything is changed (JVM Specification 6.5): the method that was selected and the
+-- arguments, or what is asked for where a step is refused.
 use Rattle.std.specs.Prelude.{◌≡◌, ℕ, Bool, true, false, List, length, drop, map, reverse, take, Option, Some, None, Result, Ok, Err, pos}
 use Rattle.std.specs.Option.{option_map}
 use Rattle.heap_objects.specs.declared.datum.Datum.TheVariants as datum

@@ -20,9 +20,9 @@ pub struct Held<T> {
     pub prepared: T,
 }
 
-/// Versions by their numbers, and for each method the one that it begins in. A version stays while its method begins in it or
-/// a frame runs it: `add` drops the former one where no frame runs it, and `release` is for frames that have ended. The number
-/// of a dropped version may be given again. Only `reserve` takes memory.
+/// Versions by their numbers, and for each method the one that it begins in. A version stays while its method begins in
+/// it or a frame runs it: `add` drops the former one where no frame runs it, and `release` is for frames that have
+/// ended. The number of a dropped version may be given again. Only `reserve` takes memory.
 #[derive(Drop)]
 pub struct Versions<T> {
     // those that the table was made with, by their numbers; the numbers of the others follow
@@ -200,8 +200,8 @@ fn keep_pinned(numbers: &mut Vec<usize>, frames: &Frames)
 }
 
 impl<T: Drop> Versions<T> {
-    /// Adds a version of a method, which begins in it from then on. Its former version is dropped where no frame runs it. Gives
-    /// the number of the new one, which no version had.
+    /// Adds a version of a method, which begins in it from then on. Its former version is dropped where no frame runs
+    /// it. Gives the number of the new one, which no version had.
     pub fn add(&mut self, method: u32, prepared: T, frames: &Frames) -> usize
         requires room { 0 < self.old.spare }
         requires method { method < length self.old.current }

@@ -1,5 +1,5 @@
-//! What native methods read of arguments and objects, and what they may do. A rule tells an effect by what it reads; effects
-//! are done in one place, so that a call that wants memory changes nothing.
+//! What native methods read of arguments and objects, and what they may do. A rule tells an effect by what it reads;
+//! effects are done in one place, so that a call that wants memory changes nothing.
 #![tactic(auto)]
 
 mod effects;

@@ -1,4 +1,5 @@
--- The kinds of a heap's objects through a native method: those that are there keep theirs, and those of new objects are known.
+-- The kinds of a heap's objects through a native method: those that are there keep theirs, and those of new objects are
+-- known.
 use Rattle.std.proofs.Common.{◌≡◌, ℕ, zero, suc, ◌+◌, ◌-◌, ◌≤◌, pos, Bool, true, false, List, [], ◌∷◌, ◌++◌, length, if◌then◌else◌, refl, sym, subst, ap, ◌∙◌, arith}
 use Rattle.std.specs.Prelude.{⊤, Some, None, nat_lt, is_some, slice_get, ◌==◌}
 use Rattle.std.specs.Option.{option_map}
@@ -133,7 +134,8 @@ module _ (P : ℕ → Type 0) where
   kinds-changed f same zero (o ∷ os) each = (subst P (sym (same o)) each.0, each.1)
   kinds-changed f same (suc at) (o ∷ os) each = (each.0, kinds-changed f same at os each.1)
 
--- A native method makes objects only of the kinds that native methods make by themselves, or of the kind of an object that is there.
+-- A native method makes objects only of the kinds that native methods make by themselves, or of the kind of an object
+-- that is there.
 pub kinds-kept : (P : ℕ → Type 0) (number : ℕ) (kinds : KindsView) (args : List Datum) (w : World) → AreMade P → HaveKinds P w.heap.objects
     → HaveKinds P (world_by number kinds args w).heap.objects
 kinds-kept P number kinds args w are have =

@@ -1,4 +1,5 @@
--- Of which kinds the objects are that native methods make: each of a few built-in classes, or of the kind of an object that is there.
+-- Of which kinds the objects are that native methods make: each of a few built-in classes, or of the kind of an object
+-- that is there.
 use Rattle.std.proofs.Common.{◌≡◌, ℕ, ◌-◌, Bool, true, false, List, [], ◌∷◌, refl, drop}
 use Rattle.std.specs.Prelude.{⊤, Option, Some, None, ℤ, pos, negsuc, zero, suc, slice_get, option_and_then, unwrap_or, is_some, IfSome, length, nat_lt, not, ◌==◌, ◌&&◌, ◌||◌, if◌then◌else◌}
 use Rattle.std.specs.List.{AllByRecursion}

@@ -31,8 +31,8 @@ returning a b f n = record { first = a; last = b; row = record { form = f; size 
 abbrev pub floating_returning : ℕ → ℕ → Form → ℕ → Group
 floating_returning a b f n = record { first = a; last = b; row = record { form = f; size = n; floating = true; ends = true; returns = true } }
 
--- The row of the group that the opcode is in. An opcode in no group stands for no instruction: 186, invokedynamic, is in no class
--- file of a version up to 50.
+-- The row of the group that the opcode is in. An opcode in no group stands for no instruction: 186, invokedynamic, is
+-- in no class file of a version up to 50.
 abbrev pub row_among : List Group → ℕ → OpRow
 row_among [] op = record { form = Unknown; size = 0; floating = false; ends = false; returns = false }
 row_among (g ∷ gs) op = if is_in_range g.first g.last op then g.row else row_among gs op

@@ -38,7 +38,8 @@ abbrev pub lines_in : List (List ℕ) → List (List ℕ)
 lines_in [] = []
 lines_in (piece ∷ rest) = line_before piece rest ∷ lines_in rest
 
--- the lines of a text, of which one that is empty says nothing, so it is no matter whether the last one ends with a byte 10
+-- the lines of a text, of which one that is empty says nothing, so it is no matter whether the last one ends with a
+-- byte 10
 abbrev pub lines_of : List ℕ → List (List ℕ)
 lines_of bytes = lines_in (slice_split is_feed bytes)
 

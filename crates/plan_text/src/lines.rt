@@ -345,12 +345,12 @@ fn read_pieces(alloc: Global, pieces: &[&[u8]]) -> Result<Plan, PlanError>
     Ok(plan)
 }
 
-/// The plan that a text says, or the first line with a fault. A line ends with a line feed, which the last one may lack, and is
-/// empty, a comment that begins with `#`, or one of the forms `main NAME`, `arg TEXT`, `arg`, `budget N`, `heap N`,
-/// `at N select ROOT` and `at N deselect ROOT`, with single spaces.
+/// The plan that a text says, or the first line with a fault. A line ends with a line feed, which the last one may
+/// lack, and is empty, a comment that begins with `#`, or one of the forms `main NAME`, `arg TEXT`, `arg`, `budget N`,
+/// `heap N`, `at N select ROOT` and `at N deselect ROOT`, with single spaces.
 ///
-/// Of a line the first cause is told, in the order of `LineCause`; then that its moment is below an earlier one, then that its
-/// root is selected already or is not selected, then that there are 256 args or actions before it.
+/// Of a line the first cause is told, in the order of `LineCause`; then that its moment is below an earlier one, then
+/// that its root is selected already or is not selected, then that there are 256 args or actions before it.
 pub fn read_plan(alloc: Global, bytes: &[u8]) -> Result<Plan, PlanError>
     ensures read { UpToMemory result (IsPlanRead bytes.now) }
     ensures within { IfOk result IsWithin }

@@ -47,7 +47,8 @@ pub enum LineCause {
     Twice,
 }
 
-/// Why a plan is refused. A number is that of the line, counted from 1; it is 0 for the word of a root, which is in no line.
+/// Why a plan is refused. A number is that of the line, counted from 1; it is 0 for the word of a root, which is in no
+/// line.
 #[derive(Debug, Drop, Error)]
 pub enum PlanError {
     #[error("the text is too long")]
@@ -109,8 +110,8 @@ fn selecting(alloc: Global, root: RootName) -> Result<Plan, NoMemory>
     })
 }
 
-/// The plan that a word for one root stands for: this method is selected before the first step. The word is class, dot, method
-/// name, descriptor, of which the last dot before the first `(` divides; the class's dots are read as slashes.
+/// The plan that a word for one root stands for: this method is selected before the first step. The word is class, dot,
+/// method name, descriptor, of which the last dot before the first `(` divides; the class's dots are read as slashes.
 ///
 /// `BadLine` says that the word is no such thing, to a user that the root is misspelled.
 pub fn plan_of_root(alloc: Global, root: &str) -> Result<Plan, PlanError>

@@ -89,8 +89,8 @@ fn root_of(alloc: Global, units: &[u16]) -> Result<Option<RootName>, NoMemory>
     }
 }
 
-/// The method that a word names: class, dot, method name, descriptor, of which the last dot before the first `(` divides.
-/// None where the word is no such thing.
+/// The method that a word names: class, dot, method name, descriptor, of which the last dot before the first `(`
+/// divides. None where the word is no such thing.
 pub fn read_root(alloc: Global, word: &str) -> Result<Option<RootName>, NoMemory>
     ensures { IfOk result (λ root. MatchOption root (IsNoRoot word.now) (IsRoot word.now)) }
 {

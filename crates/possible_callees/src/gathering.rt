@@ -121,8 +121,9 @@ fn methods_gathered(alloc: Global, method: u32, linker: &Linker) -> Result<Order
     Ok(found)
 }
 
-/// The numbers of all methods with Code that an instruction of a method's original code can begin over the classes that are loaded,
-/// each once and in their order. The method's class is loaded, and java/lang/Object is. It goes through the whole program once.
+/// The numbers of all methods with Code that an instruction of a method's original code can begin over the classes that
+/// are loaded, each once and in their order. The method's class is loaded, and java/lang/Object is. It goes through the
+/// whole program once.
 pub fn targets(alloc: Global, method: u32, linker: &Linker) -> Result<Seq<u32>, NoMemory>
     requires numbered { linker.now.program.methods ≡ methods_numbered linker.now.program.classes }
     requires few { all_coded linker.now.program.classes < 2 ^ 32 }

@@ -15,8 +15,8 @@ use class_linker::Linker;
 use jf_bytes::{NoMemory, Seq};
 use std::alloc::Global;
 
-/// The loaded classes in load order, and for each class some below it, by which one comes to all that are. Where memory ran out a list
-/// has more classes than are loaded.
+/// The loaded classes in load order, and for each class some below it, by which one comes to all that are. Where memory
+/// ran out a list has more classes than are loaded.
 #[derive(Drop)]
 pub struct Lineage {
     pub loaded: LoadOrder,

@@ -1,4 +1,5 @@
--- The versions of a class's methods for an image of the class: where homes tell of a method the version that it has in the image, else its original code.
+-- The versions of a class's methods for an image of the class: where homes tell of a method the version that it has in
+-- the image, else its original code.
 use Rattle.std.specs.Prelude.{ℕ, ◌+◌, List, [], ◌∷◌, ◌++◌, length, slice_get, Option, Some}
 use Rattle.std.specs.List.{AllByRecursion}
 use Rattle.std.specs.List.Sorted.{IsStrictlyIncreasing}

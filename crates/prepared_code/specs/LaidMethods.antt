@@ -16,7 +16,8 @@ use Rattle.jvm_model.specs.Rewriting.Versions.{entry_probe, groups_of, laid_vers
 abbrev pub NamesClass : ClassFile → ClassFile → Handler → Type 0
 NamesClass c image h = named_class image.pool h.catch_class ≡ named_class c.pool h.catch_class
 
--- The code's bytes have a reading, each instruction does in the image what it does in the class, and its branches reach in the image.
+-- The code's bytes have a reading, each instruction does in the image what it does in the class, and its branches reach
+-- in the image.
 pub record CanBeLaid (count number : ℕ) (mark : Mark) (c image : ClassFile) (old : CodeAttribute) (reading : Code) : Type 0 where
   pub bytes : IsBytes old.code
   pub most : length old.code ≤ 65535

@@ -1,4 +1,5 @@
--- What stands at an offset of a program's code, and what holds of the reference that a line names (JVM Specification 4.7.3).
+-- What stands at an offset of a program's code, and what holds of the reference that a line names (JVM Specification
+-- 4.7.3).
 use Rattle.std.specs.Prelude.{ℕ, Option, Some, None}
 use Rattle.std.specs.Option.{option_and_then}
 use Rattle.const_pool.specs.declared.class.ClassFile.{ClassFile}

@@ -1,4 +1,5 @@
--- Versions whose lines are still to be made. Such a version is its method's original code, and it is seen with the lines that it is to have.
+-- Versions whose lines are still to be made. Such a version is its method's original code, and it is seen with the
+-- lines that it is to have.
 use Rattle.std.specs.Prelude.{◌≡◌, ℕ, Bool, false, true, List, [], length, map, Option, Some, if◌then◌else◌, ◌==◌}
 use Rattle.std.specs.List.{range_with_len}
 use Rattle.std.specs.Option.{IfSome, option_map, option_map_or}

@@ -1,5 +1,5 @@
--- What a clause sees of a prepared program: its versions, with all their lines and as they are kept, some still without them, and what
--- is kept of the names of lines.
+-- What a clause sees of a prepared program: its versions, with all their lines and as they are kept, some still without
+-- them, and what is kept of the names of lines.
 use Rattle.std.specs.Prelude.{◌≡◌, ℕ}
 use Rattle.jvm_model.specs.declared.program.Program.{Program}
 use Rattle.jvm_model.specs.Basis.Data.{World}

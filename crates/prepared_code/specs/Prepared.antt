@@ -36,8 +36,8 @@ abbrev pub load_built_in : Program → List ClassFile → List ℕ → List ℕ
 load_built_in p [] loaded = loaded
 load_built_in p (c ∷ rest) loaded = load_built_in p rest (with_built_in p c loaded)
 
--- Its classes can be linked, and its methods are those that have Code, which a u32 numbers. Each of the built-in classes is loaded alone, since
--- what it names above itself stands in front of it.
+-- Its classes can be linked, and its methods are those that have Code, which a u32 numbers. Each of the built-in
+-- classes is loaded alone, since what it names above itself stands in front of it.
 pub record FitsOriginals (p : Program) : Type 0 where
   pub linkable : IsLinkable p
   pub numbered : p.methods ≡ methods_numbered p.classes

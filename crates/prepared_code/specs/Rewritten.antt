@@ -1,4 +1,5 @@
--- The version that rewritten code is: at the home of each offset the line that goes with it, behind the leave probe if one stands there.
+-- The version that rewritten code is: at the home of each offset the line that goes with it, behind the leave probe if
+-- one stands there.
 use Rattle.std.specs.Prelude.{ℕ, ◌-◌, nat_lt, List, length, map, take, Option, None, true, if◌then◌else◌}
 use Rattle.std.specs.List.{range_with_len}
 use Rattle.std.specs.Option.{option_and_then, option_map}

@@ -1,4 +1,5 @@
--- That what is set up stands for original code: the versions are of the program, whose codes lead to their own places alone, and a state of them stands for the run's.
+-- That what is set up stands for original code: the versions are of the program, whose codes lead to their own places
+-- alone, and a state of them stands for the run's.
 use Rattle.std.specs.Prelude.{◌≡◌, ◌<◌, ℕ, false, List, length, Option, Some, ◌==◌}
 use Rattle.frame_stack.specs.FrameLists.{PlacedFrame, pins_of}
 use Rattle.jvm_model.specs.declared.state.Entry.{Entry}

@@ -1,5 +1,5 @@
--- The code that is run: versions of methods, each with what stands at its places, and the version that each method begins in.
--- Original code is the case in which a method has one version, and its places are its offsets.
+-- The code that is run: versions of methods, each with what stands at its places, and the version that each method
+-- begins in. Original code is the case in which a method has one version, and its places are its offsets.
 use Rattle.std.specs.Prelude.{◌≡◌, ℕ, ◌-◌, ◌+◌, List, [], length, map, max, slice_get, unwrap_or, Bool, true, false, Option, Some, None, if◌then◌else◌}
 use Rattle.std.specs.Option.{IfSome, option_and_then, option_flatten, option_map, option_map_or}
 use Rattle.method_versions.specs.Tables.{current_in}

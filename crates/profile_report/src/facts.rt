@@ -2,8 +2,8 @@
 
 use jvm_model::Ending;
 
-/// How the run ended (none: its budget was spent), how many steps it made, how often a class was swapped, and whether the
-/// tree is told by its sums alone.
+/// How the run ended (none: its budget was spent), how many steps it made, how often a class was swapped, and whether
+/// the tree is told by its sums alone.
 #[derive(Clone, Copy, Debug, PartialEq, Eq)]
 pub struct Facts {
     pub ending: Option<Ending>,

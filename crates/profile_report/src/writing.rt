@@ -32,8 +32,8 @@ fn push_facts(
     Ok(())
 }
 
-/// The report's text: a line each for the ending, the steps and the swaps, and then the tree or, for a summary, its sums.
-/// The numbers in the ending and in the tree are those of the program; for any other a line has no name.
+/// The report's text: a line each for the ending, the steps and the swaps, and then the tree or, for a summary, its
+/// sums. The numbers in the ending and in the tree are those of the program; for any other a line has no name.
 pub fn report(
     alloc: Global,
     facts: &Facts,

@@ -67,8 +67,8 @@ ended_by (Probe e) = None
 ended_by Broken = None
 ended_by NoMemory = None
 
--- Several steps can be made at once: none is in hand and the run goes on; or one is in hand, and something is selected or
--- a path is open, so that nothing is done behind it.
+-- Several steps can be made at once: none is in hand and the run goes on; or one is in hand, and something is selected
+-- or a path is open, so that nothing is done behind it.
 pub data IsReady (x : Parts) : Type 0 where
   at_rest : Rests x → IsGoingOn x.vm → IsReady x
   in_step : IsBusy x → is_idle (kept_in x).seen ≡ false → IsReady x

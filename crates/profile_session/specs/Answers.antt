@@ -58,7 +58,8 @@ run_by false = run.Still
 
 -- ---- actions
 
--- accepted: no ending stands, the method was not selected, or was, and the action is the last one now; its swaps move nothing that is live
+-- accepted: no ending stands, the method was not selected, or was, and the action is the last one now; its swaps move
+-- nothing that is live
 pub record Accepts (old : Profiling) (select : Bool) (method : ℕ) (new : Profiling) : Type 0 where
   pub whole : old.broken ≡ false
   pub going : is_over old ≡ false

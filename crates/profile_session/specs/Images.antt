@@ -31,9 +31,9 @@ pub image_bytes-is : (p : Program) (class : ℕ) (marks : List Mark) → image_b
 unfolding image_bytes
 image_bytes-is p class marks = refl
 
--- What is asked of a program, so that each of its classes can be rewritten for any marks: its classes are class files that can be read and
--- rewritten, its methods are those with Code, numbered in order, as many as admission takes, and each instruction does something. An admitted
--- program is one.
+-- What is asked of a program, so that each of its classes can be rewritten for any marks: its classes are class files
+-- that can be read and rewritten, its methods are those with Code, numbered in order, as many as admission takes, and
+-- each instruction does something. An admitted program is one.
 pub record AreImageable (p : Program) : Type 0 where
   pub formed : AllByRecursion IsClassFile p.classes
   pub readable : AllByRecursion IsReadableClass p.classes

@@ -1,5 +1,5 @@
--- What a session keeps beside its machine: what is selected, entered and loaded with the open path, and the swap list. It changes by what the
--- session sees: classes that a step has loaded, events, ends of steps, and its own actions.
+-- What a session keeps beside its machine: what is selected, entered and loaded with the open path, and the swap list.
+-- It changes by what the session sees: classes that a step has loaded, events, ends of steps, and its own actions.
 use Rattle.std.specs.Prelude.{◌≡◌, refl, ℕ, zero, suc, not, fold, Bool, List, [], ◌∷◌, ◌++◌, map, if◌then◌else◌, ◌&&◌}
 use Rattle.jvm_model.specs.declared.event.Act.{Act}
 use Rattle.jvm_model.specs.declared.event.Event.{Event}

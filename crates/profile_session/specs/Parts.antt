@@ -66,8 +66,9 @@ IsSameRun old new = world new.vm ≡ world old.vm
 
 -- ---- they fit
 
--- The machine is whole, and no version is held needlessly; what is revealed is of its program; new activations begin in versions of the marks that
--- were shown; the depth is that of the open path, no event is late, and there are fewer calls than a number can count.
+-- The machine is whole, and no version is held needlessly; what is revealed is of its program; new activations begin in
+-- versions of the marks that were shown; the depth is that of the open path, no event is late, and there are fewer
+-- calls than a number can count.
 pub record AreFit (x : Parts) : Type 0 where
   pub whole : x.vm.broken ≡ false
   pub tidy : x.vm.stale ≡ false
@@ -164,7 +165,8 @@ pub record Hears (old : Parts) (turn : Turn) (new : Parts) : Type 0 where
   pub shown : AreShown new
   pub acts : new.acts ≡ old.acts
 
--- What it needs to know of an event: it is told now, no class is known that was not loaded, a method that it enters is of a known class, and it can be counted.
+-- What it needs to know of an event: it is told now, no class is known that was not loaded, a method that it enters is
+-- of a known class, and it can be counted.
 pub record IsTellable (x : Parts) (e : Event) : Type 0 where
   pub now : e.clock ≡ x.vm.clock
   pub prefix : IsPrefix x.reveal.lineage.loaded (loaded_in x)
@@ -221,7 +223,8 @@ pub record Brings (old new : Parts) : Type 0 where
 
 -- ---- between turns
 
--- What they are of these events: the tree is theirs once it has taken what the buffer holds, but for steps that it was given already.
+-- What they are of these events: the tree is theirs once it has taken what the buffer holds, but for steps that it was
+-- given already.
 pub record AreOf (x : Parts) (delivered : List Event) : Type 0 where
   pub profile : steps_credited x.vm.clock (profile_in x) ≡ steps_credited x.vm.clock (profile_of delivered)
   pub calls : calls_in x ≤ entries delivered

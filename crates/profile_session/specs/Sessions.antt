@@ -21,9 +21,10 @@ use Rattle.profile_session.specs.declared.swap.Swap.{Swap}
 use Rattle.profile_session.specs.Keeping.{swap_of}
 use Rattle.profile_session.specs.Parts.{Rests}
 
--- Its program and input; the accepted actions, each with its moment; whether it was advanced; whether memory has run out; the number of steps;
--- whether its tree was gathered behind all of them; the live activations of its machine, each with the mark of the version that it runs; and
--- whether, with memory left, a version is held in which its method does not begin, and that no live activation runs.
+-- Its program and input; the accepted actions, each with its moment; whether it was advanced; whether memory has run
+-- out; the number of steps; whether its tree was gathered behind all of them; the live activations of its machine, each
+-- with the mark of the version that it runs; and whether, with memory left, a version is held in which its method does
+-- not begin, and that no live activation runs.
 pub record Profiling : Type 0 where
   pub program : Program
   pub input : List ℕ
@@ -127,7 +128,8 @@ CanActNow v = v.broken ≡ false → is_over v ≡ false → v.started ≡ true 
 
 -- ---- the tree
 
--- The tree is the projection of the run under the accepted actions, with its order; before the first advance nothing was told.
+-- The tree is the projection of the run under the accepted actions, with its order; before the first advance nothing
+-- was told.
 pub record IsTreeOf (v : Profiling) (t : Profile) : Type 0 where
   pub before_the_run : v.started ≡ false → t.contexts ≡ []
   pub tree : v.started ≡ true → t.contexts ≡ projection v.acts (world_of v) v.clock

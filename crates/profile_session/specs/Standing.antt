@@ -22,7 +22,8 @@ abbrev pub told_before : Marking → World → ℕ → List Event
 told_before marking w zero = []
 told_before marking w (suc n) = events_of marking w n
 
--- Between steps, with the accepted actions, the events so far, and what is kept beside the machine: it is what stands before the next step.
+-- Between steps, with the accepted actions, the events so far, and what is kept beside the machine: it is what stands
+-- before the next step.
 pub record AtRest (acts : List Act) (w : World) (es : List Event) (k : Kept) (v : View) : Type 0 where
   pub same : world v ≡ w
   pub resting : is_resting v ≡ true

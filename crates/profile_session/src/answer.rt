@@ -3,8 +3,8 @@
 use context_tree::Tree;
 use jvm_model::Program;
 
-/// Why a method is not selected or deselected, or no tree is lent. Errors are tried in the order Broken, Ended, AlreadySelected or
-/// NotSelected.
+/// Why a method is not selected or deselected, or no tree is lent. Errors are tried in the order Broken, Ended,
+/// AlreadySelected or NotSelected.
 #[derive(Clone, Copy, Debug, PartialEq, Eq)]
 pub enum ActError {
     AlreadySelected,

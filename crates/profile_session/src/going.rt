@@ -63,7 +63,8 @@ impl Parts {
         }
     }
 
-    /// Steps that tell nothing, the turn behind them, and what the session does behind that; a step in hand is ended first.
+    /// Steps that tell nothing, the turn behind them, and what the session does behind that; a step in hand is ended
+    /// first.
     #[inline(always)]
     fn run(&mut self, most: u64) -> Result<Turn, NoMemory>
         requires ready { IsReady self.old }
@@ -83,8 +84,8 @@ impl Parts {
         }
     }
 
-    /// Turns of the step in hand while nothing is selected and no path is open: the session may do something behind each. Says whether the
-    /// run has ended where the step is done, and nothing where a path is open now.
+    /// Turns of the step in hand while nothing is selected and no path is open: the session may do something behind
+    /// each. Says whether the run has ended where the step is done, and nothing where a path is open now.
     #[inline(never)]
     fn turn_while_idle(&mut self) -> Result<Option<bool>, NoMemory>
         requires busy { IsBusy self.old }
@@ -120,8 +121,8 @@ impl Parts {
         self.turn_while_idle()
     }
 
-    /// One step or several, none behind the last one. Says whether the run has ended. The machine is called in one place, so that what it
-    /// does becomes part of this loop.
+    /// One step or several, none behind the last one. Says whether the run has ended. The machine is called in one
+    /// place, so that what it does becomes part of this loop.
     #[inline(always)]
     fn slice(&mut self, next: u64, last: u64) -> Result<bool, NoMemory>
         requires rests { Rests self.old }
@@ -161,7 +162,8 @@ impl Parts {
         }
     }
 
-    /// So many steps, or those up to the one in which the run ends; the first time the start too. Says whether the run has ended.
+    /// So many steps, or those up to the one in which the run ends; the first time the start too. Says whether the run
+    /// has ended.
     pub fn make(&mut self, steps: u64) -> Result<bool, NoMemory>
         requires rests { Rests self.old }
         requires goes_on { has_ended self.old.vm ≡ false }

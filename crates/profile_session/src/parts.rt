@@ -24,8 +24,8 @@ use jvm_machine::{Turn, Vm};
 use jvm_model::{Act, Event};
 use std::alloc::Global;
 
-/// The machine, what is revealed, the tree with what the buffer holds, how many paths are open, the swap list and the accepted
-/// actions.
+/// The machine, what is revealed, the tree with what the buffer holds, how many paths are open, the swap list and the
+/// accepted actions.
 #[derive(Drop)]
 pub struct Parts {
     pub alloc: Global,

@@ -20,10 +20,11 @@ use jvm_model::{Act, Ending, Mark, Program};
 use std::alloc::Global;
 use std::marker::Model;
 
-/// A program that is run and profiled. A clause sees its program and input, the accepted actions with their moments, whether it was
-/// advanced, and the number of steps: the state of the run, what is marked, the swap list and the tree follow from these, since its
-/// machine stands for the run. It sees too whether the tree was gathered behind the last of its steps and actions, the live activations
-/// of the machine, each with the mark of the version that it runs, and whether a version is held needlessly.
+/// A program that is run and profiled. A clause sees its program and input, the accepted actions with their moments,
+/// whether it was advanced, and the number of steps: the state of the run, what is marked, the swap list and the tree
+/// follow from these, since its machine stands for the run. It sees too whether the tree was gathered behind the last
+/// of its steps and actions, the live activations of the machine, each with the mark of the version that it runs, and
+/// whether a version is held needlessly.
 #[derive(Drop)]
 pub struct Session {
     parts: Parts,
@@ -61,7 +62,8 @@ fn run_by(ended: bool) -> Run
 }
 
 impl Session {
-    /// A session on a machine that was just made: no step was made, no image installed. After an Err the machine is given up.
+    /// A session on a machine that was just made: no step was made, no image installed. After an Err the machine is
+    /// given up.
     pub fn new(alloc: Global, vm: Box<Vm>) -> Result<Session, NoMemory>
         requires fresh { vm.value ≡ machine_made vm.value.program vm.value.input }
         requires profilable { CanBeProfiled vm.value.program }
@@ -118,8 +120,8 @@ impl Session {
         self.parts.swaps.as_slice()
     }
 
-    /// The mark of a method at the last point so far. Of a method whose class is not loaded it is Off, and of each where that point was
-    /// quiet: behind it all methods begin in their originals.
+    /// The mark of a method at the last point so far. Of a method whose class is not loaded it is Off, and of each
+    /// where that point was quiet: behind it all methods begin in their originals.
     pub fn mark(&self, method: u32) -> Mark
         ensures last { self.now.broken ≡ false → result ≡ mark_in_session self.now method }
         ensures quiet { self.now.broken ≡ false → IsQuiet (standing_of self.now)
@@ -144,8 +146,8 @@ impl Session {
         self.parts.reveal.is_selected(method)
     }
 
-    /// Makes so many steps, or those up to the one in which the run ends. The first advance makes the start too, also with no steps.
-    /// What is live runs on in the version in which it began, whatever is swapped on the way.
+    /// Makes so many steps, or those up to the one in which the run ends. The first advance makes the start too, also
+    /// with no steps. What is live runs on in the version in which it began, whatever is swapped on the way.
     pub fn advance(&mut self, steps: u64) -> Run
         requires { self.old.broken ≡ false → self.old.clock + steps ≤ 1000000000000 }
         ensures advances { Advances self.old steps result self.new }
@@ -198,7 +200,8 @@ impl Session {
         Ok(())
     }
 
-    /// Selects a method: the activations that begin in it from now on are roots. Before the first advance the action has moment 0.
+    /// Selects a method: the activations that begin in it from now on are roots. Before the first advance the action
+    /// has moment 0.
     pub fn select(&mut self, method: u32) -> Result<(), ActError>
         requires { CanActNow self.old }
         ensures ok { OnOk result (Accepts self.old true method self.new) }
@@ -252,8 +255,8 @@ impl Session {
         }
     }
 
-    /// Gathers the tree and lends it, beside the program. What the session is behind it no clause can say, since it is lent: who goes
-    /// on with it gathers, and then has it shown.
+    /// Gathers the tree and lends it, beside the program. What the session is behind it no clause can say, since it is
+    /// lent: who goes on with it gathers, and then has it shown.
     pub fn tree(&mut self) -> Result<Shown<'_>, ActError>
         ensures tree { IfOk result (λ shown. IsTreeOf self.old shown.tree.now) }
         ensures program { IfOk result (λ shown. shown.program.now ≡ self.old.program) }

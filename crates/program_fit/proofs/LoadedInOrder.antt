@@ -1,4 +1,5 @@
--- The built-in class files behind the classes of a program: each is loaded alone, in their order (JVM Specification 5.3).
+-- The built-in class files behind the classes of a program: each is loaded alone, in their order (JVM Specification
+-- 5.3).
 use Rattle.std.proofs.Common.{◌≡◌, ◌≢◌, ℕ, suc, ◌+◌, ◌<◌, ◌≤◌, Bool, true, false, not, List, [], ◌∷◌, ◌++◌, length, position, slice_get, cond, Some, None, refl, sym, ap, ◌∙◌, add-one, zero-add, arith}
 use Rattle.std.specs.Prelude.{nat_lt, unwrap_or, ◌&&◌, ◌||◌, ◌==◌}
 use Rattle.std.specs.Bool.{beq}

@@ -15,8 +15,8 @@ pub record IsAdmitted (p : Program) : Type 0 where
   pub name : List ℕ
   pub is : IsAdmittedProgram classes name p
 
--- A machine can be made of it and can start: its classes can be linked and loaded, its methods prepared, its codes lead to starts of
--- instructions alone, and its heap has room. And it is made of what images are made of.
+-- A machine can be made of it and can start: its classes can be linked and loaded, its methods prepared, its codes lead
+-- to starts of instructions alone, and its heap has room. And it is made of what images are made of.
 pub record IsRunnable (p : Program) : Type 0 where
   pub fits : FitsOriginals p
   pub fit : IsFit p

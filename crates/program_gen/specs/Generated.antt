@@ -54,7 +54,8 @@ AreDistinct (name ∷ rest) = AllByRecursion (λ other. name ≢ other) rest × 
 abbrev pub IsOwnName : List ℕ → Type 0
 IsOwnName name = AllByRecursion (λ taken. name ≢ taken) (probe_class ∷ built_in_names)
 
--- The names of the classes differ from one another, and from those of the built-in classes and of the class of the probes.
+-- The names of the classes differ from one another, and from those of the built-in classes and of the class of the
+-- probes.
 pub record HaveOwnNames (rows : List ClassRow) : Type 0 where
   pub distinct : AreDistinct (names_of rows)
   pub own : AllByRecursion IsOwnName (names_of rows)

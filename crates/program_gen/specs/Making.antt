@@ -1,5 +1,5 @@
--- The class file that is made of a row. It is walked as it is written: each text, class and member gets its entry where it
--- is needed first, behind the entries of its parts, and one that is equal to an earlier one is not made again.
+-- The class file that is made of a row. It is walked as it is written: each text, class and member gets its entry where
+-- it is needed first, behind the entries of its parts, and one that is equal to an earlier one is not made again.
 use Rattle.std.specs.Prelude.{ℕ, List, [], ◌∷◌, ◌++◌, length, Option, Some, None, codes, Bool, false, ◌&&◌, ◌==◌}
 use Rattle.std.specs.Int.{w16, to_be_bytes}
 use Rattle.std.specs.List.{position_from}

@@ -23,7 +23,8 @@ pub record IsMethodOf (pool : List Const) (row : MethodRow) (m : Member) : Type 
   pub name : named_text pool m.name ≡ Some (member_text row.name)
   pub descriptor : named_text pool m.descriptor ≡ Some (member_descriptor row.name)
 
--- The class is public, of version 49.0, has no interfaces, no fields and no attributes, and it has the methods of the row, in order.
+-- The class is public, of version 49.0, has no interfaces, no fields and no attributes, and it has the methods of the
+-- row, in order.
 pub record HasMembersOf (row : ClassRow) (c : ClassFile) : Type 0 where
   pub minor : c.minor ≡ 0
   pub major : c.major ≡ 49
@@ -64,7 +65,8 @@ pub record IsCodeOf (pool : List Const) (instructions : List Instruction) (bytes
   pub each : AllZip (IsSpelled pool) instructions parts
   pub joined : bytes ≡ flat_map (λ part. part) parts
 
--- The one attribute of the method is a Code with the instructions and the limits of the row, without handlers and attributes.
+-- The one attribute of the method is a Code with the instructions and the limits of the row, without handlers and
+-- attributes.
 pub record HasCodeOf (pool : List Const) (row : MethodRow) (m : Member) : Type 0 where
   pub name : ℕ
   pub named : named_text pool name ≡ Some (codes "Code")

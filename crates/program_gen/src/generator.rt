@@ -33,8 +33,8 @@ fn classes_of(alloc: Global, seed: u32, size: u32) -> Result<Vec<ClassFile>, NoM
     Ok(classes)
 }
 
-/// The class files of the program that the seed decides: GenMain, and `size` classes that it runs. Each is one that `read_class`
-/// reads.
+/// The class files of the program that the seed decides: GenMain, and `size` classes that it runs. Each is one that
+/// `read_class` reads.
 pub fn generate(alloc: Global, seed: u32, size: u32) -> Result<Vec<ClassFile>, NoMemory>
     requires some { 1 ≤ size }
     requires most { size ≤ 200 }

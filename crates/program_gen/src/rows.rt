@@ -65,8 +65,8 @@ pub struct ClassRow {
     pub methods: Seq<MethodRow>,
 }
 
-/// What the draws decide of a class: above which it stands, of which class it makes the left and the right object, and what
-/// the left one's argument is multiplied by and added to.
+/// What the draws decide of a class: above which it stands, of which class it makes the left and the right object, and
+/// what the left one's argument is multiplied by and added to.
 #[derive(Clone, Copy, Debug, PartialEq, Eq)]
 pub struct Choices {
     pub superclass: ClassName,

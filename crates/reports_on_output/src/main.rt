@@ -1,5 +1,5 @@
-//! jfluid with its report on standard output: runs the class files that the words name on standard input, and writes the report behind
-//! the output, so that a stored run shows both.
+//! jfluid with its report on standard output: runs the class files that the words name on standard input, and writes
+//! the report behind the output, so that a stored run shows both.
 #![tactic(auto)]
 
 use command_line::{SystemWords, raw_words};
@@ -7,8 +7,8 @@ use jf_bytes::{DiskFiles, StdSink, StdSource};
 use jfluid_cli::{Devices, jfluid};
 use std::process::ExitCode;
 
-/// Gives the real words, files and streams to the top call. The output, the report and images, of which there are none, go to
-/// standard output.
+/// Gives the real words, files and streams to the top call. The output, the report and images, of which there are none,
+/// go to standard output.
 fn main(rt: HostRuntime) -> ExitCode {
     let words = raw_words(rt.alloc(), &SystemWords { environment: &rt });
     let mut devices = Devices {

@@ -36,8 +36,8 @@ root_name = utf16_of (codes "java/lang/Object")
 
 -- ---- a row
 
--- The files have a program, the row says something in each word, and this is what came of all that it says: nothing where
--- all came as it says.
+-- The files have a program, the row says something in each word, and this is what came of all that it says: nothing
+-- where all came as it says.
 pub record IsJudged (files : List (List ℕ)) (row : List ℕ) (found : Option Difference) : Type 0 where
   pub program : Program
   pub of : IsProgramOf files program
@@ -126,8 +126,8 @@ pub record TellsError (row : List ℕ) (error : RowError) (verdict : Verdict) : 
   pub memory : error ≡ NoMemory → told ≡ codes "no memory"
   pub passed : verdict.has_passed ≡ false
 
--- The verdict on a row: it passes where all that it says comes, or where only what it took is asked for. Where it does not,
--- another thing came, or it could not be played, or memory ran out, and that is told.
+-- The verdict on a row: it passes where all that it says comes, or where only what it took is asked for. Where it does
+-- not, another thing came, or it could not be played, or memory ran out, and that is told.
 pub data IsVerdict (files : List (List ℕ)) (timed : Bool) (row : List ℕ) (verdict : Verdict) : Type 0 where
   passes : timed ≡ false → IsJudged files row None → string_bytes verdict.line ≡ row ++ codes " ok" → verdict.has_passed ≡ true
       → IsVerdict files timed row verdict

@@ -100,7 +100,8 @@ Differs p s (Happens happening) (Came came) = ⊥
 Differs p s (Is fact) NotLoaded = can_be_asked p s.now (Is fact) ≡ false
 Differs p s (Is fact) (Came came) = IsTold p s fact came × (came ≢ fact)
 
--- what is told of a row: nothing where all its items come as they say, one behind the other, and else what came of the first that does not
+-- what is told of a row: nothing where all its items come as they say, one behind the other, and else what came of the
+-- first that does not
 pub data Comes (p : Program) : List Item → Seen → Option Difference → Type 0 where
   all : (s : Seen) → Comes p [] s None
   more : (item : Item) (rest : List Item) (s : Seen) (found : Option Difference) → Passes p s item → Comes p rest (behind p item s) found → Comes p (item ∷ rest) s found

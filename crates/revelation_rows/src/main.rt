@@ -1,9 +1,10 @@
-//! Runs rows that are data over what is marked. `revelation_rows FILE..` takes class files, one of them of the class Main, and files of
-//! rows. There a `#` begins a remark, and a row is a line `WORD.. => MARKED.. | CLASS..`: what happens, the methods that are marked
-//! behind it, a root with a `!`, and the classes that have other marks than those that were shown last, in load order. It prints a line
-//! for each, `ROW ok`, or `ROW: ` and what came in place of what the row says, then how many rows passed. Behind a first word `timed` it
-//! prints what the revelation and the linker took of the processor in each row. Its status is 0
-//! where all passed, 1 where one did not, and 2 where a file could not be read.
+//! Runs rows that are data over what is marked. `revelation_rows FILE..` takes class files, one of them of the class
+//! Main, and files of rows. There a `#` begins a remark, and a row is a line `WORD.. => MARKED.. | CLASS..`: what
+//! happens, the methods that are marked behind it, a root with a `!`, and the classes that have other marks than those
+//! that were shown last, in load order. It prints a line for each, `ROW ok`, or `ROW: ` and what came in place of what
+//! the row says, then how many rows passed. Behind a first word `timed` it prints what the revelation and the linker
+//! took of the processor in each row. Its status is 0 where all passed, 1 where one did not, and 2 where a file could
+//! not be read.
 #![tactic(auto)]
 
 mod item;

@@ -109,7 +109,8 @@ fn play<R: CpuClock>(
     }
 }
 
-/// Plays what a row says in order, up to the first item that does not come as it says, and tells what came in its place.
+/// Plays what a row says in order, up to the first item that does not come as it says, and tells what came in its
+/// place.
 pub fn play_all<R: CpuClock>(
     rt: &R,
     alloc: Global,

@@ -1,5 +1,5 @@
-//! What programs that run rows of data have in common: the lines of a text and the words of a line, what is found for each of several
-//! words, and the classes of a program by their names.
+//! What programs that run rows of data have in common: the lines of a text and the words of a line, what is found for
+//! each of several words, and the classes of a program by their names.
 #![tactic(auto)]
 
 mod finding;

@@ -1,4 +1,5 @@
--- Frames that were read of bytes can be written: their offsets rise, and each is of a kind that has bytes (JVM Specification 4.7.4).
+-- Frames that were read of bytes can be written: their offsets rise, and each is of a kind that has bytes (JVM
+-- Specification 4.7.4).
 use Rattle.std.proofs.Common.{◌≡◌, ℕ, zero, suc, ◌-◌, ◌<◌, ◌≤◌, Bool, true, false, cond, eqb, ltb, List, [], ◌∷◌, length, Option, Some, None, refl, ap, subst, arith}
 use Rattle.std.specs.Prelude.{Result, Ok, Err, nat_lt, ◌==◌}
 use Rattle.std.specs.Int.{w8, w16, from_be_bytes}

@@ -98,7 +98,8 @@ moved_frames-below : (homes : Homes) (frames : List Frame) (at : ℕ) → AreHom
 moved_frames-below homes [] at are at_start stand below = tt
 moved_frames-below homes (f ∷ frames) at are at_start stand below = (home_of-rises homes f.at at are stand.0 at_start below.0, moved_frames-below homes frames at are at_start stand.1 below.1)
 
--- So a frame at the home of an offset behind all frames can be added to them, such as the frame of a handler at the code's end.
+-- So a frame at the home of an offset behind all frames can be added to them, such as the frame of a handler at the
+-- code's end.
 pub moved_frames-push : (homes : Homes) (frames : List Frame) (at : ℕ) (kind : FrameKind) → AreHomes homes → EachStands homes.from frames → Contains homes.from at → All (λ (f : Frame). f.at < at) frames
     → AreWritable frames → length frames < 65535 → FitsKind kind → AreWritable (moved_frames homes frames ++ record { at = home_of homes at; kind = kind } ∷ [])
 moved_frames-push homes frames at kind are stand at_start below writable few fits =

@@ -21,8 +21,8 @@ uninit_moves = refl
 uninit_of_the_first_moves : moved_frames homes_of_adding (record { at = 3; kind = Append (Uninit 0 ∷ Top ∷ []) } ∷ []) ≡ record { at = 9; kind = Append (Uninit 6 ∷ Top ∷ []) } ∷ []
 uninit_of_the_first_moves = refl
 
--- iload_0, ifeq 6, iconst_1, ireturn, iconst_2, ireturn with the same probes, and the frame of the branch; behind it the
--- frame of the last handler, with a class for its operand
+-- iload_0, ifeq 6, iconst_1, ireturn, iconst_2, ireturn with the same probes, and the frame of the branch; behind it
+-- the frame of the last handler, with a class for its operand
 abbrev homes_of_branching : Homes
 homes_of_branching = record { from = 0 ∷ 1 ∷ 4 ∷ 5 ∷ 6 ∷ 7 ∷ 8 ∷ []; home = 6 ∷ 7 ∷ 10 ∷ 11 ∷ 18 ∷ 19 ∷ 26 ∷ []; place = 6 ∷ 7 ∷ 10 ∷ 17 ∷ 18 ∷ 25 ∷ 26 ∷ [] }
 

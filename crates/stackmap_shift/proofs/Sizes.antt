@@ -1,5 +1,5 @@
--- How many bytes moved tables have: a table of rows as many as before, and a table of frames at most three times as many, since a
--- frame that had its delta in its type may get a long type.
+-- How many bytes moved tables have: a table of rows as many as before, and a table of frames at most three times as
+-- many, since a frame that had its delta in its type may get a long type.
 use Rattle.std.proofs.Common.{◌≡◌, ℕ, zero, suc, ◌+◌, ◌*◌, ◌≤◌, Bool, true, false, cond, ltb, List, [], ◌∷◌, ◌++◌, length, Option, Some, None, refl, ap, subst, ◌∙◌, arith}
 use Rattle.std.specs.Prelude.{Result, Ok, Err, map, nat_le, ◌==◌}
 use Rattle.std.specs.Int.{w8, w16, from_be_bytes}

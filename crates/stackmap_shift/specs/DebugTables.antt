@@ -1,5 +1,5 @@
--- LineNumberTable, LocalVariableTable and LocalVariableTypeTable (JVM Specification 4.7.8, 4.7.9, 4.7.10), and what they become
--- where the code is laid out anew.
+-- LineNumberTable, LocalVariableTable and LocalVariableTypeTable (JVM Specification 4.7.8, 4.7.9, 4.7.10), and what
+-- they become where the code is laid out anew.
 use Rattle.std.specs.Prelude.{ℕ, ◌+◌, ◌-◌, List, [], ◌∷◌, ◌++◌, length, map, Result, Ok, nat_le, unwrap_or, slice_get, if◌then◌else◌}
 use Rattle.std.specs.Int.{w16}
 use Rattle.std.specs.List.{flat_map}
@@ -48,8 +48,8 @@ rows_bytes row_bytes rows = u2 (length rows) ++ flat_map row_bytes rows
 
 -- ---- moves
 
--- The least of these offsets that is not below another one, and the last of them, where all are below. They are the starts
--- of the instructions, in order, and the code's end.
+-- The least of these offsets that is not below another one, and the last of them, where all are below. They are the
+-- starts of the instructions, in order, and the code's end.
 abbrev pub start_for : List ℕ → ℕ → ℕ
 start_for [] at = 0
 start_for (code_end ∷ []) at = code_end

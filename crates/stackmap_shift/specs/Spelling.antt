@@ -1,5 +1,5 @@
--- The bytes of a StackMapTable (JVM Specification 4.7.4), each frame in the short form that has its delta in its type exactly
--- where the delta is at most 63.
+-- The bytes of a StackMapTable (JVM Specification 4.7.4), each frame in the short form that has its delta in its type
+-- exactly where the delta is at most 63.
 use Rattle.std.specs.Prelude.{ℕ, ◌+◌, ◌-◌, List, [], ◌∷◌, ◌++◌, length, Option, Some, None, nat_le, if◌then◌else◌}
 use Rattle.std.specs.Int.{w8, w16, to_be_bytes}
 use Rattle.std.specs.List.{flat_map}

@@ -1,5 +1,5 @@
--- Reading a table from left to right: the item at the front of the bytes and the bytes after it, or the first byte that breaks
--- the grammar. A table that ends early is at fault where it ends.
+-- Reading a table from left to right: the item at the front of the bytes and the bytes after it, or the first byte that
+-- breaks the grammar. A table that ends early is at fault where it ends.
 use Rattle.std.specs.Prelude.{ℕ, List, length, Result, Ok, Err, ◌==◌, if◌then◌else◌}
 use Rattle.std.specs.Int.{Width, w16, byte_len, from_be_bytes}
 use Rattle.byte_formats.specs.Reading as reading

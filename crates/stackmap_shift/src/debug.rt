@@ -1,4 +1,5 @@
-//! Debug tables: LineNumberTable, LocalVariableTable and LocalVariableTypeTable (JVM Specification 4.7.8, 4.7.9, 4.7.10).
+//! Debug tables: LineNumberTable, LocalVariableTable and LocalVariableTypeTable (JVM Specification 4.7.8, 4.7.9,
+//! 4.7.10).
 
 ghost use Rattle.std.specs.Prelude.{◌≡◌, ◌<◌, ◌≤◌, ◌+◌, ◌++◌, ℕ, is_ok, length, map, OnOk, IfOk};
 ghost use Rattle.std.specs.List.{flat_map};
@@ -207,9 +208,9 @@ fn put_variables(out: &mut Seq<u8>, homes: &Homes, variables: &[Variable]) -> Re
     Ok(())
 }
 
-/// A LineNumberTable for code that is laid out anew, with these homes: the contents of the attribute behind its length. An
-/// offset that starts no instruction goes where the next one that does goes. Lines stay in their order. A refusal tells the
-/// first byte that breaks the grammar. To a user it means that the class file has a faulty method.
+/// A LineNumberTable for code that is laid out anew, with these homes: the contents of the attribute behind its length.
+/// An offset that starts no instruction goes where the next one that does goes. Lines stay in their order. A refusal
+/// tells the first byte that breaks the grammar. To a user it means that the class file has a faulty method.
 #[tactic(auto, unfolding(crate::specs::DebugTables::shifted_lines))]
 pub fn shift_lines(alloc: Global, bytes: &[u8], homes: &Homes) -> Result<Vec<u8>, FrameError>
     requires { IsStrictlyIncreasing homes.now.from }
@@ -222,8 +223,8 @@ pub fn shift_lines(alloc: Global, bytes: &[u8], homes: &Homes) -> Result<Vec<u8>
     Ok(out.into_vec())
 }
 
-/// A LocalVariableTable or a LocalVariableTypeTable, as `shift_lines` gives a LineNumberTable. A range that went on to an
-/// offset goes on to that offset's home.
+/// A LocalVariableTable or a LocalVariableTypeTable, as `shift_lines` gives a LineNumberTable. A range that went on to
+/// an offset goes on to that offset's home.
 #[tactic(auto, unfolding(crate::specs::DebugTables::shifted_variables))]
 pub fn shift_vars(alloc: Global, bytes: &[u8], homes: &Homes) -> Result<Vec<u8>, FrameError>
     requires { IsStrictlyIncreasing homes.now.from }

@@ -82,9 +82,9 @@ fn moved_list(alloc: Global, homes: &Homes, frames: &[Frame]) -> Result<Seq<Fram
     Ok(moved)
 }
 
-/// The frames for code that is laid out anew, with these homes. A frame moves to the home of its instruction, where what goes
-/// in front of it begins; an Uninitialized goes on naming the `new` itself. An offset that starts no instruction becomes 0, so
-/// the caller sees to it that there is none. All else stays.
+/// The frames for code that is laid out anew, with these homes. A frame moves to the home of its instruction, where
+/// what goes in front of it begins; an Uninitialized goes on naming the `new` itself. An offset that starts no
+/// instruction becomes 0, so the caller sees to it that there is none. All else stays.
 pub fn shift_frames(alloc: Global, frames: &Frames, homes: &Homes) -> Result<Frames, NoMemory>
     requires { IsStrictlyIncreasing homes.now.from }
     ensures moved { IfOk result (λ moved. moved.list ≡ moved_frames homes.now frames.now.list) }

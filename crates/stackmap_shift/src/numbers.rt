@@ -1,5 +1,5 @@
-//! Big-endian numbers (JVM Specification 4). Each reader here and in the other modules is given the table's length and the bytes
-//! that are left of the table; it answers the bytes behind its item.
+//! Big-endian numbers (JVM Specification 4). Each reader here and in the other modules is given the table's length and
+//! the bytes that are left of the table; it answers the bytes behind its item.
 
 ghost use Rattle.std.specs.Int.{w8, w16};
 ghost use Rattle.stackmap_shift.specs.Tables.{Gives, with_rest, number_at, nothing_left};

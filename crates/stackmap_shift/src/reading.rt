@@ -124,8 +124,8 @@ fn table_of(alloc: Global, limit: usize, bytes: &[u8]) -> Result<(Seq<Frame>, &[
     frames_from(alloc, count, limit, rest)
 }
 
-/// Reads a StackMapTable: the contents of the attribute behind its length. A refusal tells the first byte that breaks the
-/// grammar. To a user it means that the class file has a faulty method. Class indices are not looked up.
+/// Reads a StackMapTable: the contents of the attribute behind its length. A refusal tells the first byte that breaks
+/// the grammar. To a user it means that the class file has a faulty method. Class indices are not looked up.
 #[tactic(auto, unfolding(crate::specs::Frames::frames_of))]
 pub fn read_frames(alloc: Global, bytes: &[u8]) -> Result<Frames, FrameError>
     ensures frames { Gives (λ f. f.list) result (frames_of bytes.now) }

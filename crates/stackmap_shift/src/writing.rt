@@ -173,8 +173,8 @@ fn put_frames(out: &mut Seq<u8>, frames: &[Frame]) -> Result<(), NoMemory>
     Ok(())
 }
 
-/// The contents of a StackMapTable behind its length. A frame of a kind that has a short form is in it exactly where its
-/// delta is at most 63. `read_frames` gives the frames back. What rewrites methods calls it.
+/// The contents of a StackMapTable behind its length. A frame of a kind that has a short form is in it exactly where
+/// its delta is at most 63. `read_frames` gives the frames back. What rewrites methods calls it.
 pub fn write_frames(alloc: Global, frames: &Frames) -> Result<Vec<u8>, NoMemory>
     requires { AreWritable frames.now.list }
     ensures spelled { IfOk result (λ bytes. bytes.items ≡ table_bytes frames.now.list) }

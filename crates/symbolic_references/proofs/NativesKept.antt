@@ -1,5 +1,5 @@
--- What a native method leaves of what is shared: nothing is changed, or its answer is nothing, an int or a reference. Only a copy of an array
--- may store and then throw.
+-- What a native method leaves of what is shared: nothing is changed, or its answer is nothing, an int or a reference.
+-- Only a copy of an array may store and then throw.
 use Rattle.std.proofs.Common.{◌≡◌, ◌⊎◌, ℕ, ◌+◌, Bool, true, false, List, [], ◌∷◌, inl, inr, refl, sym, ap, subst, ◌∙◌, arith}
 use Rattle.std.specs.Prelude.{⊤, Option, Some, None, ℤ, pos, negsuc, zero, suc, slice_get, option_and_then, is_some, IfSome, length, nat_lt, ◌==◌, ◌&&◌, if◌then◌else◌}
 use Rattle.std.specs.Option.{option_map_or}

@@ -1,4 +1,5 @@
--- An exception that the machine makes (JVM Specification 2.10), by the kind of its class: object 1 stands for one that does not fit.
+-- An exception that the machine makes (JVM Specification 2.10), by the kind of its class: object 1 stands for one that
+-- does not fit.
 use Rattle.std.specs.Prelude.{ℕ, ◌+◌, Bool, List, [], ◌∷◌, length, nat_le, if◌then◌else◌}
 use Rattle.heap_objects.specs.declared.datum.Datum.TheVariants.{Ref}
 use Rattle.heap_objects.specs.Heaps.{HeapView, next_number, with_instance, with_text}

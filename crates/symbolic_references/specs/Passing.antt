@@ -1,4 +1,5 @@
--- Instructions that name something and raise nothing, where it is known what their names came to: the frame has gone on, or nothing was done.
+-- Instructions that name something and raise nothing, where it is known what their names came to: the frame has gone
+-- on, or nothing was done.
 use Rattle.std.specs.Prelude.{◌≡◌, ℕ, Bool, true, false, List, length}
 use Rattle.frame_stack.specs.FrameLists.{FramesView, with_frames}
 use Rattle.jvm_model.specs.declared.state.Phase.{Phase}

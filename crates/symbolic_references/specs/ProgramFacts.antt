@@ -1,5 +1,5 @@
--- What tables tell of a program: the numbers of its methods, what these take and their limits, the kinds of the exceptions that
--- instructions raise, and which classes Throwable and Error are.
+-- What tables tell of a program: the numbers of its methods, what these take and their limits, the kinds of the
+-- exceptions that instructions raise, and which classes Throwable and Error are.
 use Rattle.std.specs.Prelude.{◌≡◌, ◌<◌, ◌^◌, ℕ, List, [], length, slice_get}
 use Rattle.std.specs.Option.{option_and_then, option_map_or}
 use Rattle.jvm_model.specs.declared.program.Program.{Program}

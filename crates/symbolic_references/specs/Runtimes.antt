@@ -1,4 +1,5 @@
--- What all activations share, with the world that is run and the output: what clauses see of a Runtime, and what it keeps to.
+-- What all activations share, with the world that is run and the output: what clauses see of a Runtime, and what it
+-- keeps to.
 use Rattle.std.specs.Prelude.{ℕ, List, ◌++◌}
 use Rattle.heap_objects.specs.declared.datum.Datum.{Datum}
 use Rattle.heap_objects.specs.Heaps.{HeapView}
@@ -19,8 +20,8 @@ pub record RuntimeView : Type 0 where
 abbrev pub linker_in : RuntimeView → LinkerView
 linker_in r = record { program = r.world.program; loaded = r.shared.loaded }
 
--- what it keeps to: the tables are the program's, the built-in classes are loaded, those of exceptions among them, the class of each
--- object is, and what was selected for receivers is what is selected for them
+-- what it keeps to: the tables are the program's, the built-in classes are loaded, those of exceptions among them, the
+-- class of each object is, and what was selected for receivers is what is selected for them
 pub record IsRuntime (l : LinkerView) (t : ProgramTables) (kept : Slots) (h : HeapView) : Type 0 where
   pub tables : AreTablesOf l.program t
   pub built_in : HasBuiltIn l

@@ -25,7 +25,8 @@ enum Line<'a> {
         name: &'a str,
         count: usize,
     },
-    /// `padded NAME PATH LENGTH`: the file NAME has what the file at this path has, with zeros behind it up to this length.
+    /// `padded NAME PATH LENGTH`: the file NAME has what the file at this path has, with zeros behind it up to this
+    /// length.
     Padded {
         name: &'a str,
         path: &'a str,

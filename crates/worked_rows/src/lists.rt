@@ -47,8 +47,8 @@ fn names_in<'a>(alloc: Global, lines: &[&'a str]) -> Result<Vec<&'a str>, AllocE
     Ok(names)
 }
 
-/// The names of the rows of a list, in its order. A line is a row's name, a colon and what the row shows; an empty line and
-/// one that begins with `#` is none.
+/// The names of the rows of a list, in its order. A line is a row's name, a colon and what the row shows; an empty line
+/// and one that begins with `#` is none.
 pub fn row_names<'a>(alloc: Global, text: &'a str) -> Result<Vec<&'a str>, AllocError>
     ensures { IfOk result (λ names. map (λ name. name.now) names.items ≡ row_names text.now) }
 {

@@ -1,6 +1,6 @@
-//! Runs rows that are data. `worked_rows LIST..` takes each list of rows, runs each row through the top call over objects in
-//! memory, and prints a line for each: `NAME ok`, or `NAME: ` and what differs. Its status is 0 where all rows passed, 1
-//! where one did not, and 2 where a list could not be read.
+//! Runs rows that are data. `worked_rows LIST..` takes each list of rows, runs each row through the top call over
+//! objects in memory, and prints a line for each: `NAME ok`, or `NAME: ` and what differs. Its status is 0 where all
+//! rows passed, 1 where one did not, and 2 where a list could not be read.
 #![tactic(auto)]
 
 mod comparing;

@@ -1,5 +1,5 @@
--- What is known of an operand and of an instruction that bytes spell: of which shape it is, how many bytes it has, and that its
--- numbers fit there again.
+-- What is known of an operand and of an instruction that bytes spell: of which shape it is, how many bytes it has, and
+-- that its numbers fit there again.
 use Rattle.std.proofs.Common.{◌≡◌, ℕ, zero, suc, ◌+◌, ◌-◌, ◌*◌, ◌^◌, ◌<◌, ◌≤◌, leb, Bool, true, false, cond, List, [], ◌∷◌, ◌++◌, length, map, get_or, refl, sym, ap, subst, ◌∙◌, append_assoc, arith, T}
 use Rattle.std.specs.Prelude.{ℤ, pos, negsuc, ◌+ℤ◌, ◌-ℤ◌, int_le, min, FitsSigned, ltb}
 use Rattle.std.specs.Int.{Width, w8, w16, w32, byte_len, from_be_bytes, cast_signed}

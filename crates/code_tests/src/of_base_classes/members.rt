@@ -7,9 +7,9 @@ use jf_bytes::Text16;
 use std::alloc::Global;
 use std::test::Fail;
 
-/// A class with its superclass and interfaces; then a line for each field and each method, with what it has for a body, the
-/// flags 1 public, 2 private, 4 protected and 8 static, the name and the descriptor. Behind a method with code come its
-/// max_stack and max_locals, and a line for each instruction: the opcode, and how far it jumps or what it names.
+/// A class with its superclass and interfaces; then a line for each field and each method, with what it has for a body,
+/// the flags 1 public, 2 private, 4 protected and 8 static, the name and the descriptor. Behind a method with code come
+/// its max_stack and max_locals, and a line for each instruction: the opcode, and how far it jumps or what it names.
 static MEMBERS: &str = "\
 class java/lang/Object - 
   native 0001 <init> ()V

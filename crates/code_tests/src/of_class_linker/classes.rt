@@ -15,8 +15,8 @@ use jvm_model::Program;
 use std::alloc::Global;
 use std::test::Fail;
 
-/// A class: its flags, its name, its superclass's, its superinterfaces', its fields and its methods. A field or a method is its
-/// flags, its name and its descriptor with spaces between.
+/// A class: its flags, its name, its superclass's, its superinterfaces', its fields and its methods. A field or a
+/// method is its flags, its name and its descriptor with spaces between.
 pub(super) type Shape = (
     u16,
     &'static str,

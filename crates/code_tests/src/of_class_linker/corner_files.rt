@@ -21,7 +21,8 @@ pub(super) enum Files {
     StringLengthSpecial,
     /// It names a class that is not there.
     AbsentClassReached,
-    /// Classes that can't be loaded: above them is what is not there, an interface, a class, an array, and one of them itself.
+    /// Classes that can't be loaded: above them is what is not there, an interface, a class, an array, and one of them
+    /// itself.
     LoadsThatFail,
 }
 

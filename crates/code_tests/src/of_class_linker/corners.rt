@@ -99,8 +99,8 @@ fn rows() -> &'static [Row] {
 
 // ---- asking
 
-/// What the linker gives: a member, the place of an error's class among the built-in ones, no method, or whether it holds. It is not
-/// asked of a class that could not be loaded.
+/// What the linker gives: a member, the place of an error's class among the built-in ones, no method, or whether it
+/// holds. It is not asked of a class that could not be loaded.
 #[derive(Clone, Copy)]
 enum LinkerAnswer {
     Member(u32, u16),
@@ -175,7 +175,8 @@ enum By {
     Special,
 }
 
-/// What is invoked for the method at a position of a class: by an object of the subject, or by invokespecial in a method of it.
+/// What is invoked for the method at a position of a class: by an object of the subject, or by invokespecial in a
+/// method of it.
 fn method_invoked(
     linker: &Linker,
     subject: u32,

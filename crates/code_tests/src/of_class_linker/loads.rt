@@ -28,7 +28,8 @@ pub(super) fn shapes() -> &'static [Shape] {
     &SHAPES
 }
 
-/// An answer: the kind, or the name of the error's class; the classes that are loaded by it; and the name that is no class.
+/// An answer: the kind, or the name of the error's class; the classes that are loaded by it; and the name that is no
+/// class.
 pub(super) enum Wanted {
     New(u32, &'static [&'static str]),
     Already(u32),
@@ -41,8 +42,8 @@ const NO_DEFINITION: &str = "java/lang/NoClassDefFoundError";
 
 const INCOMPATIBLE: &str = "java/lang/IncompatibleClassChangeError";
 
-/// Names that are loaded in turn. A kind is 256 and the position of one of these classes, 16 and the place of a built-in one,
-/// 10 for int, and 16,777,216 more for each dimension.
+/// Names that are loaded in turn. A kind is 256 and the position of one of these classes, 16 and the place of a
+/// built-in one, 10 for int, and 16,777,216 more for each dimension.
 static LOADS: [(&str, Wanted); 20] = [
     ("[[I", Wanted::Already(33_554_442)),
     ("Own", Wanted::Throws(CIRCULARITY, &[], "")),

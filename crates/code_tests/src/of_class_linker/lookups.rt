@@ -63,8 +63,8 @@ enum Sought {
     InterfaceMethod,
 }
 
-/// A class, what is sought there by a name and a descriptor, and the class in which it is found with its position, or the
-/// error.
+/// A class, what is sought there by a name and a descriptor, and the class in which it is found with its position, or
+/// the error.
 type Row = (
     &'static str,
     Sought,

@@ -57,8 +57,8 @@ fn linker_loaded(alloc: Global) -> Result<Linker, Fail> {
     Ok(linker)
 }
 
-/// A receiver's class, the class of the resolved v, whether it is sought as invokeinterface does, and the class whose v is
-/// selected.
+/// A receiver's class, the class of the resolved v, whether it is sought as invokeinterface does, and the class whose v
+/// is selected.
 static SELECTIONS: [(&str, &str, bool, Option<&str>); 19] = [
     ("q/B", "p/A", false, Some("p/A")),
     ("q/F", "p/A", false, Some("p/A")),
@@ -122,8 +122,8 @@ fn selected_methods(rt: HostRuntime) -> Result<(), Fail> {
     Ok(())
 }
 
-/// A caller's class, the class of the resolved v, and the class whose v invokespecial invokes: from the direct superclass upwards
-/// where the resolved one is above the caller, and else the resolved one.
+/// A caller's class, the class of the resolved v, and the class whose v invokespecial invokes: from the direct
+/// superclass upwards where the resolved one is above the caller, and else the resolved one.
 static SPECIALS: [(&str, &str, Option<&str>); 14] = [
     ("q/B", "p/A", Some("p/A")),
     ("q/F", "p/A", Some("q/B")),

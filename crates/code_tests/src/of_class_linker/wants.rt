@@ -1,5 +1,5 @@
-//! Want of memory: whatever allocation fails, what was loaded before stays, and what was wanted is had the next time. With ample
-//! memory nothing fails here; under `rt try --test --fail-alloc N` the Nth allocation does, whichever it is.
+//! Want of memory: whatever allocation fails, what was loaded before stays, and what was wanted is had the next time.
+//! With ample memory nothing fails here; under `rt try --test --fail-alloc N` the Nth allocation does, whichever it is.
 
 use super::classes::{are_named, shaped_program, text};
 use super::loads::{in_the_end, is_wanted, loads, shapes};

@@ -39,8 +39,8 @@ fn groups_of(
     Ok(groups)
 }
 
-/// Lays out a code, with these bytes in front of each instruction that has this opcode. No memory is what is told where it is
-/// no code, too.
+/// Lays out a code, with these bytes in front of each instruction that has this opcode. No memory is what is told where
+/// it is no code, too.
 fn lay(
     alloc: Global,
     bytes: &[u8],
@@ -133,7 +133,8 @@ fn is_reached(laid: Result<Laid, LayError>, reach: &Reach) -> bool {
     }
 }
 
-/// Branches that just reach and that just don't, forward and backward; the last three in codes of 65,535 bytes and of one more.
+/// Branches that just reach and that just don't, forward and backward; the last three in codes of 65,535 bytes and of
+/// one more.
 const BRANCHES: [(Branch, Reach); 7] = [
     (
         Branch {

@@ -1,4 +1,5 @@
-//! Calls of native methods, a row each: the method, its arguments, what is answered, and the text that is answered or written.
+//! Calls of native methods, a row each: the method, its arguments, what is answered, and the text that is answered or
+//! written.
 
 use heap_objects::Datum;
 use native_effects::Native;

@@ -1,5 +1,6 @@
--- The tree of the events that versions tell, where each activation begins in the version of the mark that its method has at the last point
--- before, is the projection of the run; and what is seen by these events is what stands at the points.
+-- The tree of the events that versions tell, where each activation begins in the version of the mark that its method
+-- has at the last point before, is the projection of the run; and what is seen by these events is what stands at the
+-- points.
 use Rattle.std.proofs.Common.{◌≡◌, ℕ, ◌<◌, false, List, is_some, ◌∙◌}
 use Rattle.jvm_model.specs.declared.event.Act.{Act}
 use Rattle.jvm_model.specs.Soundness.Calls.{AreFrom}

@@ -1,5 +1,6 @@
--- The tree of a run's events is the projection of its activations, under each marking that suits them: what the events tell, one change
--- after another, comes to the paths of the activations and to the path of each step. It holds for any changes of any step.
+-- The tree of a run's events is the projection of its activations, under each marking that suits them: what the events
+-- tell, one change after another, comes to the paths of the activations and to the path of each step. It holds for any
+-- changes of any step.
 use Rattle.std.proofs.Common.{◌≡◌, ℕ, zero, suc, ◌<◌, ◌≤◌, Bool, true, false, ◌||◌, List, [], ◌∷◌, ◌++◌, length, filter, Option, Some, None, option_and_then, is_some, slice_get, slice_set, if◌then◌else◌, refl, sym, ap, ap₂, subst, ◌∙◌, arith}
 use Rattle.std.specs.Option.{option_map_or}
 use Rattle.std.proofs.lemmas.Bool.{cond-true, cond-false, ne_eqb}
@@ -360,8 +361,8 @@ module _ (acts : List Act) (marking : Marking) (w : World) (suited : SuitsRun ac
   pub in_order : (n : ℕ) → AreInOrder 0 (events_of marking w n) n
   in_order n = (run-agrees n).order
 
-  -- The contexts that are counted from the events of a run are the projection of its activations, as long as the run has not
-  -- ended before these steps.
+  -- The contexts that are counted from the events of a run are the projection of its activations, as long as the run
+  -- has not ended before these steps.
   pub projected : (n : ℕ) → ((m : ℕ) → m < n → is_some (run w m).ending ≡ false)
       → contexts_counted (events_of marking w n) n ≡ projection acts w n
   projected n on =

@@ -1,5 +1,5 @@
--- The contexts counted from written-out events: those of the worked run, the steps in hand at an earlier end, and a root
--- within itself.
+-- The contexts counted from written-out events: those of the worked run, the steps in hand at an earlier end, and a
+-- root within itself.
 use Rattle.std.specs.Prelude.{◌≡◌, ℕ, List, [], ◌∷◌, take, refl}
 use Rattle.jvm_model.specs.declared.event.Event.{Event}
 use Rattle.jvm_model.specs.declared.event.EventKind.{EventKind}

@@ -1,4 +1,5 @@
--- The trees of worked runs in which versions change: what is counted from the events of versions that have the marks of the last points.
+-- The trees of worked runs in which versions change: what is counted from the events of versions that have the marks of
+-- the last points.
 use Rattle.std.specs.Prelude.{◌≡◌, ℕ, List, [], ◌∷◌, refl}
 use Rattle.std.specs.Int.{int_wrap}
 use Rattle.jvm_model.specs.declared.event.Act.{Act}

@@ -3,8 +3,8 @@
 use class_reader::{ReadError, read_class};
 use std::alloc::{AllocError, Global};
 
-/// A class with the methods `f(I)I` and `main([Ljava/lang/String;)V`. Its constant pool has 23 entries and ends before the
-/// offset 214.
+/// A class with the methods `f(I)I` and `main([Ljava/lang/String;)V`. Its constant pool has 23 entries and ends before
+/// the offset 214.
 const P1: [u8; 296] = [
     0xca, 0xfe, 0xba, 0xbe, 0x00, 0x00, 0x00, 0x32, 0x00, 0x18, 0x01, 0x00, 0x02, 0x50, 0x31, 0x07,
     0x00, 0x01, 0x01, 0x00, 0x10, 0x6a, 0x61, 0x76, 0x61, 0x2f, 0x6c, 0x61, 0x6e, 0x67, 0x2f, 0x4f,
@@ -27,10 +27,10 @@ const P1: [u8; 296] = [
     0x14, 0xb1, 0x00, 0x00, 0x00, 0x00, 0x00, 0x00,
 ];
 
-/// A class of version 45.3 with each tag of the constant pool and each structure: in the pool, from offset 10 on, a Utf8, a
-/// Class, two names of attributes, a Utf8, an Integer, a Float, a Long, a Double, a String, a NameAndType and three
-/// references; from offset 95 on an interface, a field with two attributes, a method with a Code of two handlers and one
-/// attribute, and an attribute of the class.
+/// A class of version 45.3 with each tag of the constant pool and each structure: in the pool, from offset 10 on, a
+/// Utf8, a Class, two names of attributes, a Utf8, an Integer, a Float, a Long, a Double, a String, a NameAndType and
+/// three references; from offset 95 on an interface, a field with two attributes, a method with a Code of two handlers
+/// and one attribute, and an attribute of the class.
 const WIDE: [u8; 201] = [
     0xca, 0xfe, 0xba, 0xbe, 0x00, 0x03, 0x00, 0x2d, 0x00, 0x11, 0x01, 0x00, 0x01, 0x4b, 0x07, 0x00,
     0x01, 0x01, 0x00, 0x0d, 0x43, 0x6f, 0x6e, 0x73, 0x74, 0x61, 0x6e, 0x74, 0x56, 0x61, 0x6c, 0x75,

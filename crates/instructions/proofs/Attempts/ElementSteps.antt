@@ -1,4 +1,5 @@
--- A load or a store of an element that raises nothing is a step of the run, as one of the current frame alone is: nothing follows from it.
+-- A load or a store of an element that raises nothing is a step of the run, as one of the current frame alone is:
+-- nothing follows from it.
 use Rattle.std.proofs.Common.{◌≡◌, ℕ, zero, suc, Bool, true, false, List, [], ◌∷◌, drop, length, map, Option, Some, None, refl, sym, ap, ◌∙◌, arith}
 use Rattle.std.specs.Prelude.{if◌then◌else◌, is_none, is_some, pos, ◌==◌, ◌&&◌}
 use Rattle.std.specs.Option.{option_map}

@@ -1,5 +1,5 @@
--- The initialization of a class before an instruction: where the class is ready behind it no activation has begun or ended, and the
--- frame is the current one again.
+-- The initialization of a class before an instruction: where the class is ready behind it no activation has begun or
+-- ended, and the frame is the current one again.
 use Rattle.std.proofs.Common.{◌≡◌, ℕ, zero, suc, Bool, true, false, cond, List, [], ◌∷◌, ◌++◌, ◌+◌, slice_get, slice_set, Option, Some, None, nat_le, nat_lt, refl, sym, subst, ap, ◌∙◌}
 use Rattle.std.specs.Option.{IfSome}
 use Rattle.heap_objects.specs.declared.datum.Datum.{Datum}

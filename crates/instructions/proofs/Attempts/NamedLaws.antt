@@ -1,5 +1,6 @@
--- What an instruction that names something leaves as it is, and what it asks for (JVM Specification 5.5, 6.5): the loaded classes are the
--- same behind it, a class is initialized only where it is fresh, and the arguments of an invocation are operands of their kinds.
+-- What an instruction that names something leaves as it is, and what it asks for (JVM Specification 5.5, 6.5): the
+-- loaded classes are the same behind it, a class is initialized only where it is fresh, and the arguments of an
+-- invocation are operands of their kinds.
 use Rattle.std.proofs.Common.{◌≡◌, ℕ, ◌+◌, Bool, true, false, List, [], Option, Some, None, refl}
 use Rattle.std.specs.Prelude.{Result, Ok, Err, length, drop, map, slice_get, nat_le, nat_lt, ℤ, pos, negsuc, ◌==◌, if◌then◌else◌}
 use Rattle.std.specs.Bool.{beq}

@@ -1,5 +1,5 @@
--- What an instruction asks for that sees objects: no method is invoked by it, and no class is initialized before. What applies by it is what
--- the line does.
+-- What an instruction asks for that sees objects: no method is invoked by it, and no class is initialized before. What
+-- applies by it is what the line does.
 use Rattle.std.proofs.Common.{◌≡◌, ℕ, Bool, true, false, cond, List, [], ◌∷◌, Option, Some, None, refl, sym, ap, subst, ◌∙◌}
 use Rattle.std.specs.Prelude.{nat_le, ℤ, pos, negsuc, ◌+◌, ◌==◌}
 use Rattle.std.proofs.lemmas.Bool.{false≢true}

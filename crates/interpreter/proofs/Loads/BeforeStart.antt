@@ -1,4 +1,5 @@
--- Before the start the built-in classes are loaded, those of exceptions among them, and so is the class of each object that is there.
+-- Before the start the built-in classes are loaded, those of exceptions among them, and so is the class of each object
+-- that is there.
 use Rattle.std.proofs.Common.{◌≡◌, ℕ, zero, suc, Bool, true, false, List, [], ◌∷◌, Option, None, Some, refl, sym, ap, subst, ◌∙◌}
 use Rattle.std.specs.Prelude.{IfSome, map, slice_get, unwrap_or, ◌||◌}
 use Rattle.std.specs.List.{list_any}

@@ -1,4 +1,5 @@
--- A return from a version that has no probes and is its method's current one is a step of the run of which nothing is told.
+-- A return from a version that has no probes and is its method's current one is a step of the run of which nothing is
+-- told.
 use Rattle.std.proofs.Common.{◌≡◌, ℕ, ◌-◌, true, false, cond, List, [], ◌∷◌, ◌++◌, length, map, Option, Some, None, refl, sym, ap, ◌∙◌, arith, eqb-true}
 use Rattle.std.specs.Prelude.{is_none, is_some, ◌==◌, ◌&&◌, ◌||◌}
 use Rattle.std.specs.Option.{option_map}

@@ -1,5 +1,5 @@
--- A throw by which an activation ends and that its caller catches is a step of the run, of which nothing is told where the version that is left has no probes
--- and is its method's current one.
+-- A throw by which an activation ends and that its caller catches is a step of the run, of which nothing is told where
+-- the version that is left has no probes and is its method's current one.
 use Rattle.std.proofs.Common.{◌≡◌, ℕ, ◌-◌, Bool, true, false, cond, List, [], ◌∷◌, ◌++◌, length, map, Some, None, refl, sym, ap, ◌∙◌, arith, eqb-true}
 use Rattle.std.specs.Prelude.{is_none, is_some, nat_le, ◌==◌, ◌&&◌, ◌||◌}
 use Rattle.std.specs.Option.{option_map}

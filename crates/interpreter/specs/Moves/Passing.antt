@@ -1,4 +1,5 @@
--- Several steps of the run that tell nothing, in one activation or in several: what begins or ends in them has no probes.
+-- Several steps of the run that tell nothing, in one activation or in several: what begins or ends in them has no
+-- probes.
 use Rattle.std.specs.Prelude.{◌≡◌, ℕ, ◌<◌, Bool, true, false, List, [], ◌∷◌, length, nat_le, Option, None, ◌==◌, ◌||◌}
 use Rattle.heap_objects.specs.declared.Value.{Value}
 use Rattle.frame_stack.specs.FrameLists.{FramesView, PlacedFrame}

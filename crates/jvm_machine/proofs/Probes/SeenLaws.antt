@@ -1,5 +1,6 @@
--- The turns of a step together are the step: each event that is told is the next one, none is left at the end, and the live activations are those after
--- the step; with a marking that gives the versions' marks these are the events of the event list.
+-- The turns of a step together are the step: each event that is told is the next one, none is left at the end, and the
+-- live activations are those after the step; with a marking that gives the versions' marks these are the events of the
+-- event list.
 use Rattle.std.proofs.Common.{◌≡◌, ℕ, zero, suc, List, [], ◌∷◌, drop, false, None, Some, refl, sym, ap, ap₂, ◌∙◌}
 use Rattle.std.specs.Prelude.{not, ◌==◌, ◌&&◌}
 use Rattle.std.specs.Option.{option_map_or}

@@ -1,4 +1,5 @@
--- Versions of a class are added: what is in hand stays in hand, whatever of the step is done, and live activations keep their marks.
+-- Versions of a class are added: what is in hand stays in hand, whatever of the step is done, and live activations keep
+-- their marks.
 use Rattle.std.proofs.Common.{◌≡◌, ◌<◌, ◌^◌, ℕ, Bool, true, false, List, [], ◌∷◌, length, Option, Result, Ok, Err, refl, sym, ap, ap₂, subst, ◌∙◌}
 use Rattle.std.specs.Prelude.{OnErr, OnOk, ◌==◌}
 use Rattle.std.specs.List.{AllByRecursion}

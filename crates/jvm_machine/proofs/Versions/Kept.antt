@@ -1,4 +1,5 @@
--- Another table that holds what the frames run: what is in hand stays in hand, and what stands for the run stands for it.
+-- Another table that holds what the frames run: what is in hand stays in hand, and what stands for the run stands for
+-- it.
 use Rattle.std.proofs.Common.{◌≡◌, ℕ, Bool, true, false, List, [], ◌∷◌, length, Option, Some, None, refl, sym, ap, ap₂, subst, ◌∙◌, inl, inr}
 use Rattle.std.specs.Prelude.{max, ◌-◌, ◌==◌}
 use Rattle.std.specs.List.{AllByRecursion}

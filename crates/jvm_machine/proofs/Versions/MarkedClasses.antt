@@ -1,4 +1,5 @@
--- The marks that are seen where the versions of a class for its image were added: those of the image for the class's methods, the others as before.
+-- The marks that are seen where the versions of a class for its image were added: those of the image for the class's
+-- methods, the others as before.
 use Rattle.std.proofs.Common.{◌≡◌, ◌<◌, ◌≤◌, ◌+◌, ◌-◌, ℕ, zero, suc, Bool, true, false, cond, List, [], ◌∷◌, ◌++◌, length, map, Option, Some, None, refl, sym, ap, ap₂, ◌∙◌, eqb-true, arith}
 use Rattle.std.specs.Prelude.{nat_le, slice_get, slice_set, unwrap_or, ◌==◌, ◌&&◌, if◌then◌else◌}
 use Rattle.std.specs.List.{AllByRecursion}

@@ -1,4 +1,5 @@
--- The methods of a program are numbered in the order of their places: each place has one number, and a class with Code there.
+-- The methods of a program are numbered in the order of their places: each place has one number, and a class with Code
+-- there.
 use Rattle.std.proofs.Common.{◌≡◌, ◌<◌, ◌≤◌, ◌+◌, ℕ, zero, suc, Bool, true, false, List, [], ◌∷◌, ◌++◌, Option, Some, None, refl, sym, ap, subst, ◌∙◌, inl, inr, ◌⊎◌, arith}
 use Rattle.std.specs.Prelude.{is_some, slice_get, ◌==◌, ◌&&◌, if◌then◌else◌}
 use Rattle.std.specs.List.{AllByRecursion}

@@ -1,4 +1,5 @@
--- A later action changes nothing of what was before: what stands, what is marked, what is told and what is projected up to its moment.
+-- A later action changes nothing of what was before: what stands, what is marked, what is told and what is projected up
+-- to its moment.
 use Rattle.std.proofs.Common.{◌≡◌, ℕ, zero, suc, ◌<◌, ◌≤◌, Bool, true, false, not, ◌||◌, ◌&&◌, List, [], ◌∷◌, ◌++◌, Option, Some, None, option_and_then, slice_get, slice_set, if◌then◌else◌, refl, sym, ap, ap₂, subst, ◌∙◌, arith}
 use Rattle.std.specs.Prelude.{fold, filter, nat_le, ◌-◌, ◌==◌}
 use Rattle.std.specs.List.{AllByRecursion}

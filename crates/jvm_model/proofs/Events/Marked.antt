@@ -1,4 +1,5 @@
--- What is kept at every point of a run: profiled live activations are entered, and each activation began in a version that suits it.
+-- What is kept at every point of a run: profiled live activations are entered, and each activation began in a version
+-- that suits it.
 use Rattle.std.proofs.Common.{◌≡◌, ℕ, zero, suc, ◌<◌, ◌≤◌, Bool, true, false, not, ◌||◌, ◌&&◌, List, [], ◌∷◌, ◌++◌, length, Some, None, slice_get, slice_set, if◌then◌else◌, refl, sym, ap, ap₂, subst, ◌∙◌, eqb-true, inl, inr, arith}
 use Rattle.std.specs.Prelude.{fold, filter, map, nat_le, ◌-◌, ◌==◌}
 use Rattle.std.specs.List.{AllByRecursion, list_any}
@@ -740,8 +741,8 @@ rooted acts activations (number ∷ rest) are =
     by true = sym (is_inside-push (path_at acts activations (current rest)) are.0.activation.method)
     by false = refl
 
--- Where the current activation is profiled no point is quiet: so the end of a step in which a profiled activation begins stands as the point
--- behind that begin, and changes no mark.
+-- Where the current activation is profiled no point is quiet: so the end of a step in which a profiled activation
+-- begins stands as the point behind that begin, and changes no mark.
 pub profiled-unsettled : (acts : List Act) (s : Standing) → IsTrace s.trace → is_profiled acts s.trace ≡ true → standing_settled acts s ≡ s
 profiled-unsettled acts s is inside =
     ap (λ b. if is_empty s.selected && not b then record s { entered = [] } else s) (rooted acts s.trace.activations s.trace.live is ∙ inside)

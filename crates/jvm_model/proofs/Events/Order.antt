@@ -1,5 +1,5 @@
--- In a step classes are loaded first, then activations end, and one begins behind them at most; and each state of a run is
--- normal.
+-- In a step classes are loaded first, then activations end, and one begins behind them at most; and each state of a run
+-- is normal.
 use Rattle.std.proofs.Common.{◌≡◌, ℕ, zero, suc, ◌≤◌, ◌⊎◌, inl, inr, Bool, true, false, List, [], ◌∷◌, ◌++◌, Option, Some, None, nat_lt, if◌then◌else◌, refl, sym, ap, subst, ◌∙◌, arith}
 use Rattle.std.specs.Option.{IfSome}
 use Rattle.std.proofs.lemmas.Option.{none-some, IfSome_then}

@@ -1,4 +1,5 @@
--- What changes tell by the versions of the live activations is what the event list of a trace has, where the versions' marks are those of the marking.
+-- What changes tell by the versions of the live activations is what the event list of a trace has, where the versions'
+-- marks are those of the marking.
 use Rattle.std.proofs.Common.{◌≡◌, ℕ, zero, suc, List, [], ◌∷◌, ◌++◌, map, Some, None, option_and_then, slice_get, slice_set, refl, sym, ap, ap₂, ◌∙◌}
 use Rattle.std.specs.Option.{option_map_or}
 use Rattle.std.proofs.lemmas.Option.{slice_get_within, same_Some}

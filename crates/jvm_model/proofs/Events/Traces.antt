@@ -1,5 +1,5 @@
--- What holds of every trace: which activations are live, and that their methods are changed as told. Each change keeps it,
--- so all changes of a step do, and the trace of a run has it.
+-- What holds of every trace: which activations are live, and that their methods are changed as told. Each change keeps
+-- it, so all changes of a step do, and the trace of a run has it.
 use Rattle.std.proofs.Common.{◌≡◌, ℕ, zero, suc, List, [], ◌∷◌, ◌++◌, length, map, Some, None, slice_get, slice_set, refl, sym, ap, ap₂, subst, ◌∙◌, inl, inr}
 use Rattle.std.specs.Bool.{⊤}
 use Rattle.std.specs.Option.{option_map_or}

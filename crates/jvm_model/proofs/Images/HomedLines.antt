@@ -1,4 +1,5 @@
--- At the home of each instruction of a code that was laid out stands, behind what goes before it, the same instruction by homes.
+-- At the home of each instruction of a code that was laid out stands, behind what goes before it, the same instruction
+-- by homes.
 use Rattle.std.proofs.Common.{◌≡◌, ℕ, ◌+◌, ◌*◌, Bool, true, false, cond, List, length, Option, Some, None, refl, sym, ap, ◌∙◌}
 use Rattle.std.proofs.lemmas.List.{length-map}
 use Rattle.std.specs.Prelude.{min, unwrap_or}

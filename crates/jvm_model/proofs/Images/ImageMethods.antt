@@ -62,8 +62,8 @@ some-of f (Some x) e = (x, refl)
 
 -- ---- what instructions do
 
--- the image's class file, as far as its instructions look: a pool with more behind it, the class's own index, and methods that
--- keep their names
+-- the image's class file, as far as its instructions look: a pool with more behind it, the class's own index, and
+-- methods that keep their names
 pub record LooksAlike (c image : ClassFile) : Type 0 where
   pub more : List Const
   pub pool : image.pool ≡ c.pool ++ more

@@ -1,5 +1,5 @@
--- Probes in the code of an image: where their bytes stand there is a probe, and where an original instruction stands there
--- is none.
+-- Probes in the code of an image: where their bytes stand there is a probe, and where an original instruction stands
+-- there is none.
 use Rattle.std.proofs.Common.{◌≡◌, ℕ, ◌+◌, ◌<◌, ◌^◌, Bool, true, false, List, ◌∷◌, ◌++◌, length, cond, Option, Some, None, refl, sym, ap, ◌∙◌, append_assoc, length-append, eqb-true, arith}
 use Rattle.std.specs.Prelude.{codes, ◌==◌, ◌&&◌, not}
 use Rattle.std.specs.Option.{option_map, option_and_then}

@@ -1,5 +1,5 @@
--- How many bytes an image has: at most seven times as many as its class, and the tail. A return gets six bytes in front of it, which is the
--- most that one byte comes to.
+-- How many bytes an image has: at most seven times as many as its class, and the tail. A return gets six bytes in front
+-- of it, which is the most that one byte comes to.
 use Rattle.std.proofs.Common.{◌≡◌, ℕ, ◌+◌, ◌*◌, ◌≤◌, Bool, true, false, cond, List, [], ◌∷◌, ◌++◌, length, Option, Some, refl, sym, ap, arith}
 use Rattle.std.specs.Prelude.{map, MatchBool, Result, Ok, Err}
 use Rattle.std.specs.List.{flat_map}

@@ -1,4 +1,5 @@
--- The number of a method in its program: that of the first method with Code of its class, and then those of the class in front of it.
+-- The number of a method in its program: that of the first method with Code of its class, and then those of the class
+-- in front of it.
 use Rattle.std.proofs.Common.{◌≡◌, ℕ, zero, suc, ◌+◌, ◌<◌, ◌≤◌, Bool, true, false, cond, List, [], ◌∷◌, ◌++◌, length, slice_get, Option, Some, refl, sym, ap, subst, ◌∙◌, zero-add, arith}
 use Rattle.std.specs.Prelude.{count_by, nat_lt, is_some}
 use Rattle.std.proofs.lemmas.Bool.{lt-ltb, le-ltb}

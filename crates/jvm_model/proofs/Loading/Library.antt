@@ -1,5 +1,5 @@
--- The built-in classes stand each behind what it needs, and java/lang/Object has nothing above it and no method with Code: computed over their
--- class files, and so of every program that has them behind its own.
+-- The built-in classes stand each behind what it needs, and java/lang/Object has nothing above it and no method with
+-- Code: computed over their class files, and so of every program that has them behind its own.
 use Rattle.std.proofs.Common.{◌≡◌, ℕ, suc, ◌+◌, Bool, true, false, not, List, [], ◌∷◌, ◌++◌, length, map, Option, Some, None, slice_get, if◌then◌else◌, refl, sym, ap, subst, ◌∙◌, arith, length-append, inl, inr}
 use Rattle.std.proofs.lemmas.Bool.{and_parts, cases_eq, ne_eqb, false≢true}
 use Rattle.std.proofs.lemmas.List.{append_assoc}

@@ -1,4 +1,5 @@
--- Classes are loaded once, and behind what stands above them: in each list of loaded classes of a run (JVM Specification 5.3).
+-- Classes are loaded once, and behind what stands above them: in each list of loaded classes of a run (JVM
+-- Specification 5.3).
 use Rattle.std.proofs.Common.{◌≡◌, ℕ, zero, suc, ◌+◌, ◌<◌, ◌≤◌, Bool, true, false, List, [], ◌∷◌, ◌++◌, length, ap, sym, subst, refl, ◌∙◌, eqb-true, arith}
 use Rattle.std.proofs.lemmas.Bool.{ne_eqb, false≢true}
 use Rattle.std.proofs.lemmas.List.{append-nil, append_assoc}

@@ -1,5 +1,6 @@
--- Loading again, where all that a resolution loads is loaded, loads no class more and ends with the same fault (JVM Specification 5.3).
--- So an instruction whose classes are loaded before it is attempted finds, by the same name, what its load ended with.
+-- Loading again, where all that a resolution loads is loaded, loads no class more and ends with the same fault (JVM
+-- Specification 5.3). So an instruction whose classes are loaded before it is attempted finds, by the same name, what
+-- its load ended with.
 use Rattle.std.proofs.Common.{◌≡◌, ℕ, zero, suc, Bool, true, false, List, [], ◌∷◌, ◌++◌, ap, sym, refl, ◌∙◌, arith}
 use Rattle.std.proofs.Math.Seq.{drop-append_seam, drop-length}
 use Rattle.std.specs.Prelude.{length, drop, Option, Some, None, ◌==◌, ◌||◌, if◌then◌else◌}

@@ -1,5 +1,5 @@
--- Code that stays within itself, from what admission looks at: each code is instructions from its front to its end, which jump to starts of
--- instructions, and whose handlers begin, end and go on at such.
+-- Code that stays within itself, from what admission looks at: each code is instructions from its front to its end,
+-- which jump to starts of instructions, and whose handlers begin, end and go on at such.
 use Rattle.std.proofs.Common.{◌≡◌, ℕ, Bool, true, false, List, [], ◌∷◌, length, map, Option, Some, None, if◌then◌else◌, refl, sym, ap, subst, ◌∙◌, eqb-true, arith}
 use Rattle.std.proofs.lemmas.Bool.{eq-eqb, false≢true, or_left, or_right}
 use Rattle.std.specs.Prelude.{is_some, unwrap_or, ◌==◌, ◌||◌}

@@ -1,4 +1,5 @@
--- What an instruction asks for that names a class, a field or a method moves with its return addresses, and so does what it loads.
+-- What an instruction asks for that names a class, a field or a method moves with its return addresses, and so does
+-- what it loads.
 use Rattle.std.proofs.Common.{◌≡◌, ℕ, zero, suc, ◌+◌, drop, length, map, Bool, true, false, not, List, [], ◌∷◌, Option, Some, None, nat_le, nat_lt, ◌==◌, if◌then◌else◌, ℤ, refl, ap, ◌∙◌}
 use Rattle.std.specs.Prelude.{pos, Result, Ok, Err, slice_get}
 use Rattle.std.specs.Bool.{beq}

@@ -1,5 +1,5 @@
--- A step of a state elsewhere is the step of the state, elsewhere; and where frames and return addresses stand at places,
--- they do so after the step, since then the state is its own image under `norm`.
+-- A step of a state elsewhere is the step of the state, elsewhere; and where frames and return addresses stand at
+-- places, they do so after the step, since then the state is its own image under `norm`.
 use Rattle.std.proofs.Common.{◌≡◌, ℕ, zero, suc, Bool, true, false, List, [], ◌∷◌, ◌++◌, Option, Some, None, ◌&&◌, refl, sym, ap, subst, ◌∙◌}
 use Rattle.std.specs.Option.{option_map, option_map_or}
 use Rattle.std.proofs.lemmas.Option.{same_Some}

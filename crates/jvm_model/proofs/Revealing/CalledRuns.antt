@@ -1,4 +1,5 @@
--- What begins in a run is called: every activation that has a parent is a target of the parent's method, over the classes that are loaded by then.
+-- What begins in a run is called: every activation that has a parent is a target of the parent's method, over the
+-- classes that are loaded by then.
 use Rattle.std.proofs.Common.{◌≡◌, ℕ, zero, suc, Bool, true, false, List, [], ◌∷◌, ◌++◌, Option, Some, None, nat_le, nat_lt, if◌then◌else◌, refl, sym, ap, subst, ◌∙◌}
 use Rattle.std.proofs.lemmas.Option.{IfSome_then}
 use Rattle.std.proofs.lemmas.List.{append-nil}

@@ -1,4 +1,5 @@
--- What begins in a step is a target of what is current then, and every initialization on the stack is due on the frame below it.
+-- What begins in a step is a target of what is current then, and every initialization on the stack is due on the frame
+-- below it.
 use Rattle.std.proofs.Common.{◌≡◌, ℕ, suc, Bool, true, false, List, [], ◌∷◌, ◌++◌, Option, Some, None, slice_get, nat_le, nat_lt, if◌then◌else◌, refl, sym, ap, subst, eqb-true}
 use Rattle.std.specs.Prelude.{is_some, ◌==◌, ◌||◌}
 use Rattle.std.specs.List.{AllByRecursion}

@@ -1,5 +1,5 @@
--- What a revelation keeps is enough: what a class adds to the targets of operations is what it makes of the instructions that name it, and of
--- the calls on a class above it.
+-- What a revelation keeps is enough: what a class adds to the targets of operations is what it makes of the
+-- instructions that name it, and of the calls on a class above it.
 use Rattle.std.proofs.Common.{◌≡◌, ℕ, Bool, true, false, List, [], ◌∷◌, ◌++◌, ap, ap₂, sym, refl, ◌∙◌}
 use Rattle.std.proofs.lemmas.List.{append-nil}
 use Rattle.std.specs.Prelude.{filter_map, flat_map, Option, Some, None, ◌||◌, if◌then◌else◌}

@@ -1,5 +1,5 @@
--- What marks at points rest on: in a run of a whole program, whatever begins is a target of its parent's method, and so each activation begins
--- in a version that suits it.
+-- What marks at points rest on: in a run of a whole program, whatever begins is a target of its parent's method, and so
+-- each activation begins in a version that suits it.
 use Rattle.std.proofs.Common.{◌≡◌, ℕ, ◌≤◌, true, List, [], length, is_some, arith}
 use Rattle.jvm_model.specs.declared.event.Act.{Act}
 use Rattle.jvm_model.specs.Profiling.Activations.{trace_before}
@@ -22,8 +22,8 @@ use Rattle.jvm_model.proofs.Events.Marked.{suits-run}
 use Rattle.jvm_model.proofs.Soundness.Ranked.{AreInOrder, none-ranked, order-ranked, ranked-climbs, run-keeps, run-ranked}
 use Rattle.jvm_model.proofs.Relocated.StandingFrames.{closed-stands, places-stand}
 
--- What is asked of a program: that it is fit, that nothing stands above java/lang/Object, that the built-in classes stand each behind what it
--- needs, that its main method is one, and that its codes are such as admission accepts.
+-- What is asked of a program: that it is fit, that nothing stands above java/lang/Object, that the built-in classes
+-- stand each behind what it needs, that its main method is one, and that its codes are such as admission accepts.
 pub record IsRevealable (w : World) : Type 0 where
   pub fit : IsFit w.program
   pub bare : HasBareObject w.program

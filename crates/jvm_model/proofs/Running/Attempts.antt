@@ -1,5 +1,5 @@
--- What a step is made of: classes are loaded, the instruction is attempted, and perhaps once more. A law of steps is one of
--- attempts by these three lemmas.
+-- What a step is made of: classes are loaded, the instruction is attempted, and perhaps once more. A law of steps is
+-- one of attempts by these three lemmas.
 use Rattle.std.proofs.Common.{◌≡◌, ℕ, Bool, true, false, List, [], ◌∷◌, Option, Some, None, ◌&&◌, if◌then◌else◌, refl}
 use Rattle.std.proofs.lemmas.Bool.{and_parts}
 use Rattle.jvm_model.specs.Basis.Data.{Frame, State, Turn, Instruction, Listing, World}
@@ -7,8 +7,8 @@ use Rattle.jvm_model.specs.Basis.SharedState.{phase_of}
 use Rattle.jvm_model.specs.Running.Moves.{then_turn}
 use Rattle.jvm_model.specs.Running.Run.{attempt, is_ready, has_no_changes, is_going_on, goes_again, with_classes_loaded, loaded_turn}
 
--- What holds of the attempt, and of a second one behind it, holds of both. Before a second one nothing has changed, and the run
--- goes on.
+-- What holds of the attempt, and of a second one behind it, holds of both. Before a second one nothing has changed, and
+-- the run goes on.
 pub again-by : (P : Turn → Type 0) (w : World) (t : Listing) (i : Instruction) (s : State) (f : Frame) (c : Option ℕ) (a : Turn) → P a
     → (has_no_changes a.changes ≡ true → is_going_on a.after.ending a.after.thrown ≡ true → P (then_turn a (attempt w t i (record a.after { stack = s.stack }) f)))
     → P (goes_again w t i s f c a)

@@ -1,5 +1,5 @@
--- A run's output only grows, and a run that has ended stays as it is. What an instruction writes is appended, and nothing else
--- touches the output.
+-- A run's output only grows, and a run that has ended stays as it is. What an instruction writes is appended, and
+-- nothing else touches the output.
 use Rattle.std.proofs.Common.{◌≡◌, ℕ, zero, suc, ◌≤◌, Bool, true, false, List, [], ◌∷◌, ◌++◌, Option, Some, None, is_some, nat_le, nat_lt, if◌then◌else◌, refl, sym, ap, subst, ◌∙◌, inl, inr, append_assoc, arith}
 use Rattle.std.specs.List.{slice_get}
 use Rattle.std.specs.Option.{IfSome, option_map}

@@ -1,5 +1,5 @@
--- What stands at the start of an instruction of a small class: a line, behind which the next instruction starts unless it
--- returns, and which calls a method that can begin and stands earlier.
+-- What stands at the start of an instruction of a small class: a line, behind which the next instruction starts unless
+-- it returns, and which calls a method that can begin and stands earlier.
 use Rattle.std.proofs.Common.{◌≡◌, ℕ, zero, suc, ◌<◌, Bool, true, false, List, [], ◌∷◌, length, slice_get, Some, refl, sym, ap, subst, ◌∙◌, arith}
 use Rattle.std.specs.Option.{option_map, option_and_then}
 use Rattle.std.specs.List.{list_all, AllByRecursion}

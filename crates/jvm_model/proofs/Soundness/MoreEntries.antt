@@ -1,5 +1,5 @@
--- What a class's pool names, it names with more entries behind: so an instruction of the class does the same in a class with such a pool, and a
--- handler catches the same.
+-- What a class's pool names, it names with more entries behind: so an instruction of the class does the same in a class
+-- with such a pool, and a handler catches the same.
 use Rattle.std.proofs.Common.{◌≡◌, ℕ, Bool, true, false, List, slice_get, cond, Option, Some, None, refl, sym, ap, subst, ◌∙◌, [], ◌∷◌, ◌++◌, inl, inr}
 use Rattle.std.specs.Prelude.{◌==◌, ◌⊎◌}
 use Rattle.std.specs.Option.{option_map, option_and_then, ok_or}

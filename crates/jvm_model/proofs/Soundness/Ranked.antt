@@ -1,4 +1,5 @@
--- Walks above loaded classes end within as many steps as there are classes: so they go on upwards, whatever bounds them.
+-- Walks above loaded classes end within as many steps as there are classes: so they go on upwards, whatever bounds
+-- them.
 use Rattle.std.proofs.Common.{◌≡◌, ℕ, zero, suc, ◌+◌, ◌<◌, ◌≤◌, Bool, true, false, List, [], ◌∷◌, ◌++◌, length, ap, sym, subst, refl, ◌∙◌, eqb-true, inl, inr, arith}
 use Rattle.std.proofs.lemmas.Bool.{eq-eqb, cases_eq, false≢true, or_right}
 use Rattle.std.proofs.lemmas.List.{append-nil, append_assoc}

@@ -1,4 +1,5 @@
--- The attempt of any instruction keeps what is shared sound (JVM Specification 6.5), and an instruction of original code can be attempted.
+-- The attempt of any instruction keeps what is shared sound (JVM Specification 6.5), and an instruction of original
+-- code can be attempted.
 use Rattle.std.proofs.Common.{◌≡◌, ℕ, Bool, true, false, List, [], ◌∷◌, refl}
 use Rattle.std.specs.Prelude.{drop, Option, Some, None, ℤ, ◌==◌, ◌&&◌, if◌then◌else◌}
 use Rattle.heap_objects.specs.declared.datum.Datum.{Datum}

@@ -1,4 +1,5 @@
--- Loading keeps the supertypes of what is loaded loaded, and walks go from a loaded class to loaded ones (JVM Specification 5.3, 5.4.3).
+-- Loading keeps the supertypes of what is loaded loaded, and walks go from a loaded class to loaded ones (JVM
+-- Specification 5.3, 5.4.3).
 use Rattle.std.proofs.Common.{◌≡◌, ℕ, zero, suc, Bool, true, false, List, [], ◌∷◌, ◌++◌, map, ap, sym, subst, refl, ◌∙◌}
 use Rattle.std.specs.Prelude.{◌+◌, length, Option, Some, None, filter_map, flat_map, not, unwrap_or, ◌==◌, ◌||◌, ◌&&◌, if◌then◌else◌}
 use Rattle.std.specs.Bool.{beq}

@@ -1,5 +1,5 @@
--- The kinds of classes and arrays, and what they are of: of classes that are loaded, where a name was loaded without a fault (JVM
--- Specification 5.3, 5.4.3.1).
+-- The kinds of classes and arrays, and what they are of: of classes that are loaded, where a name was loaded without a
+-- fault (JVM Specification 5.3, 5.4.3.1).
 use Rattle.std.proofs.Common.{◌≡◌, ℕ, zero, suc, ◌+◌, ◌-◌, ◌*◌, ◌<◌, ◌≤◌, Bool, true, false, List, [], ◌∷◌, ap, sym, subst, refl, ◌∙◌, lit<, arith}
 use Rattle.std.proofs.lemmas.Nat.{div-mul-add, mod-mul-add}
 use Rattle.std.specs.Prelude.{◌/◌, ◌%◌, length, Option, Some, None, codes, position, nat_le, nat_lt, unwrap_or, not, ◌==◌, ◌||◌, ◌&&◌, if◌then◌else◌}

@@ -1,5 +1,5 @@
--- An instruction of original code can be attempted: it names types of the dimensions that it needs, and an invokespecial stands in the
--- class whose name it has (JVM Specification 4.9.1, 6.5).
+-- An instruction of original code can be attempted: it names types of the dimensions that it needs, and an
+-- invokespecial stands in the class whose name it has (JVM Specification 4.9.1, 6.5).
 use Rattle.std.proofs.Common.{◌≡◌, ℕ, ◌<◌, Bool, true, false, List, [], ◌∷◌, ap, sym, subst, refl, ◌∙◌, arith}
 use Rattle.std.specs.Prelude.{Option, Some, None, slice_get, ◌==◌, ◌&&◌, if◌then◌else◌}
 use Rattle.std.specs.List.{AllByRecursion}

@@ -1,4 +1,5 @@
--- Every state of a run over a sound listing is sound: the start gives one, and a step of one gives one (JVM Specification 5.2, 5.3, 5.5).
+-- Every state of a run over a sound listing is sound: the start gives one, and a step of one gives one (JVM
+-- Specification 5.2, 5.3, 5.5).
 use Rattle.std.proofs.Common.{◌≡◌, ℕ, false, List, [], ◌∷◌, ◌++◌, sym, subst, refl, ◌∙◌, ◌⊎◌, inl, inr}
 use Rattle.std.proofs.lemmas.Option.{IfSome_then, none-some}
 use Rattle.std.specs.Prelude.{Option, Some, None}

@@ -1,4 +1,5 @@
--- What an instruction asks for, and the moves behind it, keep a state sound, over any listing of versions (JVM Specification 2.6, 2.10, 5.5).
+-- What an instruction asks for, and the moves behind it, keep a state sound, over any listing of versions (JVM
+-- Specification 2.6, 2.10, 5.5).
 use Rattle.std.proofs.Common.{◌≡◌, ℕ, suc, Bool, true, false, List, [], ◌∷◌, ap, sym, subst, refl, ◌∙◌}
 use Rattle.std.specs.Prelude.{Option, Some, None, slice_get, nat_le, nat_lt, if◌then◌else◌}
 use Rattle.std.specs.List.{AllByRecursion}

@@ -1,5 +1,5 @@
--- What an instruction that names something gives (JVM Specification 5.4.3, 6.5): what is shared stays sound, and what is invoked or
--- initialized is of a class that is loaded.
+-- What an instruction that names something gives (JVM Specification 5.4.3, 6.5): what is shared stays sound, and what
+-- is invoked or initialized is of a class that is loaded.
 use Rattle.std.proofs.Common.{◌≡◌, ℕ, zero, suc, ◌+◌, ◌*◌, ◌≤◌, ◌<◌, Bool, true, false, List, [], ◌∷◌, ◌++◌, length, ap, sym, subst, refl, ◌∙◌, arith}
 use Rattle.std.proofs.Math.Nat.{mod-add-div'}
 use Rattle.std.proofs.lemmas.List.{append-nil}

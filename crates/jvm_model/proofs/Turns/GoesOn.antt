@@ -1,5 +1,5 @@
--- How a step in hand goes on over the listing of versions that is in force: it stops where the step's next change is told, and what is in hand then is
--- the rest of the same step; at its end the machine stands for the state after it.
+-- How a step in hand goes on over the listing of versions that is in force: it stops where the step's next change is
+-- told, and what is in hand then is the rest of the same step; at its end the machine stands for the state after it.
 use Rattle.std.proofs.Common.{◌≡◌, ℕ, zero, suc, Bool, true, false, List, [], ◌∷◌, ◌++◌, drop, Option, Some, None, refl, sym, ap, ap₂, subst, ◌∙◌}
 use Rattle.std.specs.Option.{option_map}
 use Rattle.std.proofs.lemmas.Option.{same_Some}

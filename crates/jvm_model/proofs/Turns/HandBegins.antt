@@ -1,4 +1,5 @@
--- How a step comes in hand: behind its load, or at once; and that what is in hand stays so where other versions are installed.
+-- How a step comes in hand: behind its load, or at once; and that what is in hand stays so where other versions are
+-- installed.
 use Rattle.std.proofs.Common.{◌≡◌, ℕ, Bool, true, false, List, [], ◌∷◌, drop, refl, sym, ap, subst, ◌∙◌}
 use Rattle.jvm_model.specs.Basis.Data.{Entry, Active, Initializing, State, Turn, Listing, World}
 use Rattle.jvm_model.specs.Running.Applies.{still}

@@ -1,4 +1,5 @@
--- What a loop of moves needs that stops where something is told: a silent move keeps the pause, and makes `left` less; else the pause is reached.
+-- What a loop of moves needs that stops where something is told: a silent move keeps the pause, and makes `left` less;
+-- else the pause is reached.
 use Rattle.std.proofs.Common.{inl, inr, ◌≡◌, ℕ, zero, suc, ◌≤◌, ◌<◌, [], ◌∷◌, Option, Some, None, refl, sym, ap, subst, ◌∙◌, arith}
 use Rattle.std.specs.Option.{IfSome, option_map_or}
 use Rattle.jvm_model.specs.declared.event.Mark.{Mark}

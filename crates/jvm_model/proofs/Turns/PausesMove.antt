@@ -1,4 +1,5 @@
--- A pause of a state elsewhere is the pause of the state, elsewhere, where the places' versions have the same marks; and it stands at places.
+-- A pause of a state elsewhere is the pause of the state, elsewhere, where the places' versions have the same marks;
+-- and it stands at places.
 use Rattle.std.proofs.Common.{◌≡◌, ℕ, zero, suc, Bool, true, false, List, [], ◌∷◌, ◌++◌, Option, Some, None, ◌==◌, ◌&&◌, if◌then◌else◌, refl, sym, ap, ap₂, ◌∙◌}
 use Rattle.std.specs.Option.{option_map, option_map_or}
 use Rattle.std.proofs.lemmas.Option.{same_Some}

@@ -1,4 +1,5 @@
--- The moves of a state stop at the first of their changes that is told, and what is left behind that is what is left of the step.
+-- The moves of a state stop at the first of their changes that is told, and what is left behind that is what is left of
+-- the step.
 use Rattle.std.proofs.Common.{nat_lt, ◌≡◌, ℕ, zero, suc, ◌≤◌, ◌<◌, Bool, true, false, List, [], ◌∷◌, ◌++◌, Option, Some, None, if◌then◌else◌, refl, sym, ap, ◌∙◌, arith}
 use Rattle.std.specs.Option.{IfSome, option_map_or}
 use Rattle.jvm_model.specs.declared.event.EventKind.{EventKind}

@@ -1,5 +1,6 @@
--- What is left of a step over versions stands for what is left of it over the original code, whichever of the two kinds it is; and
--- classes are loaded alike. The listing of versions may be another one than before: each of these laws goes by the listing that is in force then.
+-- What is left of a step over versions stands for what is left of it over the original code, whichever of the two kinds
+-- it is; and classes are loaded alike. The listing of versions may be another one than before: each of these laws goes
+-- by the listing that is in force then.
 use Rattle.std.proofs.Common.{◌≡◌, ℕ, List, [], ◌∷◌, Option, Some, None, refl, sym, ap, ◌∙◌}
 use Rattle.std.specs.Option.{option_map}
 use Rattle.jvm_model.specs.Basis.Data.{Frame, Entry, Active, Initializing, Ending, State, Instruction, Listing, World}

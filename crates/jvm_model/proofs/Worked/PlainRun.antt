@@ -1,5 +1,5 @@
--- The worked run of class P1 from its bytes: main prints f(41), which is 42, and returns in the ninth step; and of mains that
--- calculate something else.
+-- The worked run of class P1 from its bytes: main prints f(41), which is 42, and returns in the ninth step; and of
+-- mains that calculate something else.
 use Rattle.std.specs.Prelude.{◌≡◌, ℕ, List, [], ◌∷◌, ◌++◌, Some, None, refl, codes}
 use Rattle.std.specs.Fmt.{digits}
 use Rattle.const_pool.specs.declared.pool.Const.{Const}

@@ -1,5 +1,5 @@
--- Worked runs over lists of instructions: arrays, their exceptions with messages, monitors, handlers of interfaces, and the limits of
--- the heap and of live activations.
+-- Worked runs over lists of instructions: arrays, their exceptions with messages, monitors, handlers of interfaces, and
+-- the limits of the heap and of live activations.
 use Rattle.std.specs.Prelude.{◌≡◌, ℕ, List, [], ◌∷◌, Option, Some, None, ℤ, pos, negsuc, length, map, replicate, take, refl, codes}
 use Rattle.std.specs.Fmt.{digits}
 use Rattle.std.specs.Int.{int_wrap}

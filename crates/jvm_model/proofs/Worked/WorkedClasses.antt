@@ -1,5 +1,5 @@
--- Worked attempts of the instructions that name classes, fields and methods, over small programs: each rule at each of its cases, in the
--- order of what it asks.
+-- Worked attempts of the instructions that name classes, fields and methods, over small programs: each rule at each of
+-- its cases, in the order of what it asks.
 use Rattle.std.specs.Prelude.{◌≡◌, refl, ℕ, ◌++◌, false, List, [], ◌∷◌, length, map, replicate, Option, Some, None, pos, negsuc, codes, unwrap_or}
 use Rattle.std.specs.Int.{int_wrap}
 use Rattle.heap_objects.specs.declared.datum.Datum.TheVariants as datum
@@ -67,7 +67,8 @@ b = codes "B"
 abbrev pub absent : List ℕ
 absent = codes "Absent"
 
--- A implements I; E extends A, and names an interface that is not there; F and G extend one another; H extends the interface I
+-- A implements I; E extends A, and names an interface that is not there; F and G extend one another; H extends the
+-- interface I
 abbrev pub loading : Program
 loading = program_of (
     class a object_name (codes "I" ∷ [])

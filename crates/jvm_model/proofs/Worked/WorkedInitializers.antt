@@ -1,5 +1,5 @@
--- Worked runs over lists of instructions: classes that are initialized, with and without a static initializer, and initializers
--- that throw (JVM Specification 5.5).
+-- Worked runs over lists of instructions: classes that are initialized, with and without a static initializer, and
+-- initializers that throw (JVM Specification 5.5).
 use Rattle.std.specs.Prelude.{◌≡◌, ℕ, List, [], ◌∷◌, Some, None, pos, refl, codes, take, drop, map}
 use Rattle.heap_objects.specs.Heaps.{slot_at, units_at}
 use Rattle.heap_objects.specs.Objects.{kind_of}

@@ -1,4 +1,5 @@
--- Worked attempts of the instructions that invoke methods, over small programs, and the constants of a class's static fields.
+-- Worked attempts of the instructions that invoke methods, over small programs, and the constants of a class's static
+-- fields.
 use Rattle.std.specs.Prelude.{◌≡◌, refl, ℕ, true, false, List, [], ◌∷◌, Option, Some, None, pos, negsuc, codes, slice_get, unwrap_or, Ok}
 use Rattle.std.specs.Fmt.{digits}
 use Rattle.std.specs.Int.{int_wrap}
@@ -34,8 +35,8 @@ use Rattle.jvm_model.proofs.Worked.WorkedClasses.{a, b, asked, fresh, long, numb
 abbrev pub to_int : List ℕ
 to_int = codes "()I"
 
--- C extends B, and B extends A. A's x is private and its w abstract; n and the static sn are native. J and M implement I, and M has no i.
--- Of the methods that have Code, A's are 0 to 3, B's 4 and 5, and J's 6.
+-- C extends B, and B extends A. A's x is private and its w abstract; n and the static sn are native. J and M implement
+-- I, and M has no i. Of the methods that have Code, A's are 0 to 3, B's 4 and 5, and J's 6.
 abbrev pub calling : Program
 calling = program_of (
     with_methods (
@@ -291,7 +292,8 @@ pub hash_code-of_object : of_call (Invokevirtual (reference a (codes "hashCode")
 unfolding native_methods rows built_in_classes object_classes text_classes stream_classes value_classes throwable_classes is_among
 hash_code-of_object = refl
 
--- ======== constants of static fields: of a boolean the lowest bit, of a byte and a char the low bits, and one String for equal units
+-- ======== constants of static fields: of a boolean the lowest bit, of a byte and a char the low bits, and one String
+-- for equal units
 
 abbrev pub constants : Program
 constants = program_of (record (with_fields (

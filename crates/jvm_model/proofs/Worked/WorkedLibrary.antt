@@ -1,5 +1,5 @@
--- Class files by hand, for worked runs and attempts: of each there is what the rules look up in it. And the built-in classes, with the
--- members that are named there. Their bytes are never read.
+-- Class files by hand, for worked runs and attempts: of each there is what the rules look up in it. And the built-in
+-- classes, with the members that are named there. Their bytes are never read.
 use Rattle.std.specs.Prelude.{◌≡◌, refl, ℕ, ◌+◌, ◌++◌, List, [], ◌∷◌, length, map, Option, Some, None, codes, unwrap_or}
 use Rattle.std.specs.Option.{option_map_or}
 use Rattle.const_pool.specs.declared.class.Attribute.{Attribute}
@@ -20,7 +20,8 @@ pub record Item : Type 0 where
   pub member : NameAndType
   pub attributes : List Attribute
 
--- A class: its flags, its name, its superclass's, its interfaces', and its members. Constants have the indices of the pool from 5 on.
+-- A class: its flags, its name, its superclass's, its interfaces', and its members. Constants have the indices of the
+-- pool from 5 on.
 pub record Shape : Type 0 where
   pub access : ℕ
   pub name : List ℕ

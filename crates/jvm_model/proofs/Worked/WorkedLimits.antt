@@ -1,4 +1,5 @@
--- Worked runs over lists of instructions: where code breaks what a verifier would have asked of it (JVM Specification 4.9, 4.10).
+-- Worked runs over lists of instructions: where code breaks what a verifier would have asked of it (JVM Specification
+-- 4.9, 4.10).
 use Rattle.std.specs.Prelude.{◌≡◌, List, [], ◌∷◌, Some, None, pos, refl, codes}
 use Rattle.heap_objects.specs.declared.datum.Datum.TheVariants as datum
 use Rattle.heap_objects.specs.declared.Value.TheVariants.{Int, Long, Ref, Addr}

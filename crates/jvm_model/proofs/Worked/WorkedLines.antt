@@ -1,4 +1,5 @@
--- Worked lines: the operation of each instruction that names something, by its opcode and its entry in the pool (JVM Specification 4.4, 6.5).
+-- Worked lines: the operation of each instruction that names something, by its opcode and its entry in the pool (JVM
+-- Specification 4.4, 6.5).
 use Rattle.std.specs.Prelude.{◌≡◌, ℕ, false, ◌++◌, List, [], ◌∷◌, Option, Some, None, codes, refl, replicate}
 use Rattle.const_pool.specs.declared.class.ClassFile.{ClassFile}
 use Rattle.const_pool.specs.declared.pool.Const.TheVariants.{Gap, Utf8, Class, Field, Method, InterfaceMethod, NameType}

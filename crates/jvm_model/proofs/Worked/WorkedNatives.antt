@@ -1,4 +1,5 @@
--- Worked attempts of native methods, and of ldc of a String and of a Class, over a small program (JVM Specification 5.1, 6.5).
+-- Worked attempts of native methods, and of ldc of a String and of a Class, over a small program (JVM Specification
+-- 5.1, 6.5).
 use Rattle.std.specs.Prelude.{◌≡◌, refl, ℕ, List, [], ◌∷◌, Some, false, pos, negsuc, codes}
 use Rattle.std.specs.Fmt.{digits}
 use Rattle.heap_objects.specs.declared.Value.TheVariants.{Int, Ref}

@@ -1,5 +1,5 @@
--- Programs by hand, for worked runs: instructions as lists, beside class files by hand. Of a method that has Code the class file has
--- what it takes, gives and has room for.
+-- Programs by hand, for worked runs: instructions as lists, beside class files by hand. Of a method that has Code the
+-- class file has what it takes, gives and has room for.
 use Rattle.std.specs.Prelude.{ℕ, zero, suc, ◌+◌, true, false, List, [], ◌∷◌, ◌++◌, map, Option, Some, None, codes, pos, slice_get, ◌==◌, if◌then◌else◌}
 use Rattle.std.specs.Option.{option_map, option_map_or}
 use Rattle.heap_objects.specs.declared.datum.Datum.TheVariants as datum

@@ -1,4 +1,5 @@
--- Worked runs of several classes: which are loaded and when, what stops the start, and what is initialized (JVM Specification 5.3, 5.5).
+-- Worked runs of several classes: which are loaded and when, what stops the start, and what is initialized (JVM
+-- Specification 5.3, 5.5).
 use Rattle.std.specs.Prelude.{◌≡◌, ℕ, List, [], ◌∷◌, Some, None, drop, pos, refl, codes, slice_get, take}
 use Rattle.std.specs.Fmt.{digits}
 use Rattle.std.specs.Int.{int_wrap}

@@ -1,4 +1,5 @@
--- What a machine's state is made of, what an instruction is, and what it asks for (JVM Specification 2.5, 2.6, 2.10, 5.5).
+-- What a machine's state is made of, what an instruction is, and what it asks for (JVM Specification 2.5, 2.6, 2.10,
+-- 5.5).
 use Rattle.std.specs.Prelude.{ℕ, Bool, List, Option, ℤ}
 pub use Rattle.heap_objects.specs.declared.datum.Datum.{Datum}
 pub use Rattle.heap_objects.specs.declared.Value.{Value}
@@ -60,8 +61,8 @@ pub record StackForm : Type 0 where
   pub takes : List Bool
   pub puts : List ℕ
 
--- An instruction in a method: its offset in the original code, the place behind it, unless control never goes on there, and
--- the places that it names.
+-- An instruction in a method: its offset in the original code, the place behind it, unless control never goes on there,
+-- and the places that it names.
 pub record Instruction : Type 0 where
   pub operation : Operation Local
   pub own : ℕ
@@ -118,8 +119,8 @@ pub record Done : Type 0 where
 
 -- ---- what a step does
 
--- What a step did to the classes and activations, in order: it loaded these classes, an activation of this method began, the
--- current one ended at a return, or it was unwound by a throw.
+-- What a step did to the classes and activations, in order: it loaded these classes, an activation of this method
+-- began, the current one ended at a return, or it was unwound by a throw.
 pub data Change : Type 0 where
   Loads : List ℕ → Change
   Began : ℕ → Change

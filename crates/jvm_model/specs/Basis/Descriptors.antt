@@ -1,5 +1,5 @@
--- Method descriptors (JVM Specification 4.3.2, 4.3.3): what a method of a descriptor takes and gives. The grammar itself is
--- const_pool's IsMethod.
+-- Method descriptors (JVM Specification 4.3.2, 4.3.3): what a method of a descriptor takes and gives. The grammar
+-- itself is const_pool's IsMethod.
 use Rattle.std.specs.Prelude.{ℕ, zero, suc, Bool, List, [], ◌∷◌, Option, Some, None, codes, nat_le, ◌==◌, if◌then◌else◌}
 use Rattle.std.specs.Option.{option_and_then, option_map}
 use Rattle.std.specs.Str.{bytes_eq}

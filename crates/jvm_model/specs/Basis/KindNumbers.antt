@@ -1,6 +1,6 @@
--- Kinds of classes and arrays as numbers. A kind is the number d * 2 ^ 24 + b: d is how many dimensions there are, 0 for what is no
--- array; b is the code of newarray for a primitive element, 16 and the place among the built-in classes, or 256 and the position among
--- the others, which stand before them.
+-- Kinds of classes and arrays as numbers. A kind is the number d * 2 ^ 24 + b: d is how many dimensions there are, 0
+-- for what is no array; b is the code of newarray for a primitive element, 16 and the place among the built-in classes,
+-- or 256 and the position among the others, which stand before them.
 use Rattle.std.specs.Prelude.{ℕ, ◌+◌, ◌-◌, ◌*◌, ◌/◌, ◌%◌, length, Option, Some, None, nat_lt, if◌then◌else◌}
 use Rattle.const_pool.specs.BuiltIn.{built_in_names}
 use Rattle.jvm_model.specs.declared.program.Program.{Program}

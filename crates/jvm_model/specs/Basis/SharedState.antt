@@ -1,5 +1,5 @@
--- What all activations share: phases and static fields of classes, objects (JVM Specification 2.5.3, 5.5), and the exceptions
--- that the machine makes (2.10).
+-- What all activations share: phases and static fields of classes, objects (JVM Specification 2.5.3, 5.5), and the
+-- exceptions that the machine makes (2.10).
 use Rattle.std.specs.Prelude.{ℕ, ◌+◌, Bool, List, [], ◌∷◌, length, map, Option, Some, None, unwrap_or, position, pos, slice_get, slice_set, nat_le, nat_lt, codes, ◌==◌, ◌||◌, if◌then◌else◌}
 use Rattle.std.specs.Option.{option_and_then, option_map, option_map_or}
 use Rattle.heap_objects.specs.declared.datum.Datum.TheVariants as datum
@@ -86,7 +86,8 @@ abbrev pub with_exception : Program → List ℕ → Option (List ℕ) → Datum
 with_exception p name message cause h =
     with_instance (kind_for p name) (message_in message h ∷ cause ∷ []) (with_message p message h)
 
--- An exception of the class with this name, made with its message in one test of the limit; object 1 where both do not fit.
+-- An exception of the class with this name, made with its message in one test of the limit; object 1 where both do not
+-- fit.
 abbrev pub made_with : World → Shared → List ℕ → Option (List ℕ) → Datum → Allocated
 made_with w s name message cause =
     if nat_le (s.heap.used + (message_cost message + 3)) s.heap.limit

@@ -6,7 +6,8 @@ use Rattle.jvm_model.specs.Basis.Programs.{class_named}
 use Rattle.jvm_model.specs.Basis.KindNumbers.{base_of_class, class_of_base, KindParts, kind_number}
 use Rattle.jvm_model.specs.Classes.Lookup.{is_subtype}
 
--- java/lang/Object, java/lang/Cloneable and java/io/Serializable stand first among the built-in classes: what an array also is
+-- java/lang/Object, java/lang/Cloneable and java/io/Serializable stand first among the built-in classes: what an array
+-- also is
 abbrev pub is_above_arrays : ℕ → Bool
 is_above_arrays base = base == 16 || base == 17 || base == 18
 
@@ -19,8 +20,8 @@ is_subbase_of p lower upper _ _ = false
 abbrev pub is_subbase : Program → ℕ → ℕ → Bool
 is_subbase p lower upper = is_subbase_of p lower upper (class_of_base p lower) (class_of_base p upper)
 
--- An array is a subtype of one with as many dimensions whose element is above its own, and of arrays of fewer dimensions, or
--- none, of what every array is.
+-- An array is a subtype of one with as many dimensions whose element is above its own, and of arrays of fewer
+-- dimensions, or none, of what every array is.
 abbrev pub is_subkind : Program → KindParts → KindParts → Bool
 is_subkind p lower upper =
     if lower.dimensions == upper.dimensions then is_subbase p lower.base upper.base

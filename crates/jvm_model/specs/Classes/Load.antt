@@ -1,6 +1,6 @@
--- Loading classes (JVM Specification 5.3): which are loaded when a name is resolved, in order, and what stops it. A class is
--- loaded behind its superclass and its superinterfaces in order; each of these is looked at as soon as it is loaded. What was
--- loaded before a fault stays loaded.
+-- Loading classes (JVM Specification 5.3): which are loaded when a name is resolved, in order, and what stops it. A
+-- class is loaded behind its superclass and its superinterfaces in order; each of these is looked at as soon as it is
+-- loaded. What was loaded before a fault stays loaded.
 use Rattle.std.specs.Prelude.{ℕ, zero, suc, ◌+◌, Bool, true, false, not, ◌&&◌, List, [], ◌∷◌, ◌++◌, length, Option, Some, None, map, codes, ◌==◌, if◌then◌else◌}
 use Rattle.std.specs.Bool.{beq}
 use Rattle.std.specs.List.{list_any}
@@ -15,8 +15,8 @@ use Rattle.jvm_model.specs.Classes.Kinds.{Element, Primitive, Named, is_array_na
 
 -- ---- what loading gives
 
--- what stops it: a name that is no class of the program, a class that is its own supertype (5.3.5), and a superclass that is an
--- interface or a superinterface that is none
+-- what stops it: a name that is no class of the program, a class that is its own supertype (5.3.5), and a superclass
+-- that is an interface or a superinterface that is none
 pub data Fault : Type 0 where
   NoClass : List ℕ → Fault
   Circular : Fault
@@ -110,7 +110,8 @@ abbrev pub load_element : Element → List ℕ → (List ℕ → Loading) → Lo
 load_element (Primitive code) loaded load = loading_done loaded
 load_element (Named name) loaded load = load name
 
--- The path has the classes that are being loaded. Each is another one, so the depth, one more than there are classes, suffices.
+-- The path has the classes that are being loaded. Each is another one, so the depth, one more than there are classes,
+-- suffices.
 abbrev pub load_named : Program → ℕ → List ℕ → List ℕ → List ℕ → Loading
 load_named p zero path name loaded = loading_failed loaded Circular
 load_named p (suc depth) path name loaded =

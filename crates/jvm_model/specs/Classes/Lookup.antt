@@ -1,6 +1,6 @@
--- Supertypes, and looking up fields and methods (JVM Specification 4.9, 5.4.3). A walk goes from a class to the classes that it
--- names; what names no class of the program is passed over. Among classes that can be loaded no chain of supertypes is longer
--- than the list of classes, which bounds each walk; in a list with circles the bound cuts it.
+-- Supertypes, and looking up fields and methods (JVM Specification 4.9, 5.4.3). A walk goes from a class to the classes
+-- that it names; what names no class of the program is passed over. Among classes that can be loaded no chain of
+-- supertypes is longer than the list of classes, which bounds each walk; in a list with circles the bound cuts it.
 use Rattle.std.specs.Prelude.{ℕ, zero, suc, Bool, false, List, [], ◌∷◌, ◌++◌, length, Option, Some, None, filter_map, flat_map, codes, ◌==◌, if◌then◌else◌}
 use Rattle.std.specs.Bool.{beq}
 use Rattle.std.specs.List.{list_any}
@@ -36,8 +36,8 @@ abbrev pub superclasses_within : Program → ℕ → ℕ → List ℕ
 superclasses_within p zero class = []
 superclasses_within p (suc n) class = class ∷ flat_map (superclasses_within p n) (superclass_of p class)
 
--- The superinterfaces of an interface: each direct one, followed by its own. Those of a class: the same, and then those of its
--- superclass.
+-- The superinterfaces of an interface: each direct one, followed by its own. Those of a class: the same, and then those
+-- of its superclass.
 abbrev pub superinterfaces_within : Program → ℕ → ℕ → List ℕ
 superinterfaces_within p zero class = []
 superinterfaces_within p (suc n) class =
@@ -106,8 +106,8 @@ incompatible_change = codes "java/lang/IncompatibleClassChangeError"
 abbrev pub resolved_field : Program → ℕ → NameAndType → Resolution
 resolved_field p class wanted = found_or (first_in (field_at p wanted) (supertypes p class)) no_such_field
 
--- A method of a class is sought in the class, its superclasses, then its superinterfaces (5.4.3.3); one of an interface in the
--- interface, its superinterfaces, then java/lang/Object (5.4.3.4).
+-- A method of a class is sought in the class, its superclasses, then its superinterfaces (5.4.3.3); one of an interface
+-- in the interface, its superinterfaces, then java/lang/Object (5.4.3.4).
 abbrev pub method_order : Program → ℕ → List ℕ
 method_order p class =
     if is_interface p class

@@ -1,5 +1,5 @@
--- Overriding (JVM Specification 5.4.5), and which method an object's class has for a resolved one (chapter 6, invokevirtual and
--- invokeinterface).
+-- Overriding (JVM Specification 5.4.5), and which method an object's class has for a resolved one (chapter 6,
+-- invokevirtual and invokeinterface).
 use Rattle.std.specs.Prelude.{ℕ, ◌+◌, Bool, false, not, List, [], ◌∷◌, Option, Some, None, IsTrue, slice_get, take, unwrap_or, ◌==◌, ◌&&◌, ◌||◌, if◌then◌else◌}
 use Rattle.std.specs.List.{list_any}
 use Rattle.std.specs.Option.{option_and_then, option_map, option_map_or}
@@ -70,14 +70,14 @@ stands_below p m1 m2 =
 abbrev pub is_reached : Program → ℕ → MemberPlace → Bool
 is_reached p class m = not (is_private p m) && (is_open p m || same_package p class m.class)
 
--- A method overrides another below which it stands: where its class reaches that one, or where it overrides a third method that
--- overrides that one.
+-- A method overrides another below which it stands: where its class reaches that one, or where it overrides a third
+-- method that overrides that one.
 pub data Overrides (p : Program) : MemberPlace → MemberPlace → Type 0 where
   directly : (m1 m2 : MemberPlace) → IsTrue (stands_below p m1 m2) → IsTrue (is_reached p m1.class m2) → Overrides p m1 m2
   through : (m1 m2 m3 : MemberPlace) → IsTrue (stands_below p m1 m2) → Overrides p m1 m3 → Overrides p m3 m2 → Overrides p m1 m2
 
--- The same as a test: where the class does not reach the second method itself, a method between the two passes it on, which is
--- open to every class and of the second one's package.
+-- The same as a test: where the class does not reach the second method itself, a method between the two passes it on,
+-- which is open to every class and of the second one's package.
 abbrev pub passes_on : Program → MemberPlace → MemberPlace → MemberPlace → Bool
 passes_on p m1 m2 m3 =
     stands_below p m1 m3 && stands_below p m3 m2 && not (is_private p m3) && is_open p m3 && is_reached p m3.class m2
@@ -95,8 +95,8 @@ overrides p m1 m2 =
 abbrev pub same_member : MemberPlace → MemberPlace → Bool
 same_member m1 m2 = m1.class == m2.class && m1.position == m2.position
 
--- what a class may have for the method: an instance method of its name and descriptor, which for a method of a class is the
--- method or overrides it
+-- what a class may have for the method: an instance method of its name and descriptor, which for a method of a class is
+-- the method or overrides it
 abbrev pub fits : Program → Bool → MemberPlace → MemberPlace → Bool
 fits p interface m m1 = not (is_static p m1) && (interface || (same_member m1 m || overrides p m1 m))
 

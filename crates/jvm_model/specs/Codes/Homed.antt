@@ -1,5 +1,5 @@
--- What stands at the homes of a version: the instruction that goes with each start of the original code, behind the leave probe if one
--- stands there, with the offset of the original.
+-- What stands at the homes of a version: the instruction that goes with each start of the original code, behind the
+-- leave probe if one stands there, with the offset of the original.
 use Rattle.std.specs.Prelude.{◌≡◌, ℕ, nat_lt, map, List, Option, Some, None, if◌then◌else◌}
 use Rattle.std.specs.List.{AllByRecursion}
 use Rattle.std.specs.Option.{option_and_then, option_map}
@@ -30,7 +30,8 @@ instruction_for image code homes len at =
 abbrev pub homed_instruction : ClassFile → List ℕ → Homes → ℕ → ℕ → Option Instruction
 homed_instruction image code homes len home = option_and_then (instruction_for image code homes len) (start_in homes home)
 
--- A code that was laid out: each of its instructions does in the image what it does in the class, and each home is that of one offset.
+-- A code that was laid out: each of its instructions does in the image what it does in the class, and each home is that
+-- of one offset.
 pub record IsHomed (c image : ClassFile) (leave old : List ℕ) (instrs : List Instr) (laid : Laid) : Type 0 where
   pub reads : Reads old 0 instrs
   pub laid_out : AreLaidIn laid (map (group_of leave) instrs)

@@ -1,5 +1,5 @@
--- What the instruction at an offset is: its operand as a value, a slot, or the names that it refers to (JVM Specification
--- 4.7.3, 5.4.3, 6.5). No name is looked up here.
+-- What the instruction at an offset is: its operand as a value, a slot, or the names that it refers to (JVM
+-- Specification 4.7.3, 5.4.3, 6.5). No name is looked up here.
 use Rattle.std.specs.Prelude.{ℕ, Bool, true, false, List, [], ◌∷◌, length, nat_lt, nat_le, Option, Some, None, slice_get, ℤ, ◌==◌, ◌&&◌, if◌then◌else◌}
 use Rattle.std.specs.Int.{is_in_range}
 use Rattle.std.specs.Option.{option_and_then, option_map, option_map_or}
@@ -46,8 +46,8 @@ keys_in (arg.Table default low targets) = Some (Consecutive low (length targets)
 keys_in (arg.Lookup default keys targets) = Some (Listed keys)
 keys_in _ = None
 
--- With the constant that an ldc has. An instruction whose operand is of another form than its family needs is none; decoded code
--- has none such.
+-- With the constant that an ldc has. An instruction whose operand is of another form than its family needs is none;
+-- decoded code has none such.
 abbrev pub local_of : Family → Arg → Option Datum → Option Local
 local_of family.Nop a c = Some Nop
 local_of (family.Constant d) a c = Some (Constant d)
@@ -100,8 +100,8 @@ named_interface_method pool i =
 abbrev pub special_of : List ℕ → Reference → SymbolicReference
 special_of caller r = Invokespecial caller r false
 
--- Those with a pool index alone, a row each: field instructions name a field; invokevirtual, invokespecial and invokestatic a method;
--- new, anewarray, checkcast and instanceof a class (4.10.1, 6.5).
+-- Those with a pool index alone, a row each: field instructions name a field; invokevirtual, invokespecial and
+-- invokestatic a method; new, anewarray, checkcast and instanceof a class (4.10.1, 6.5).
 abbrev pub symbolic_reference_of : ClassFile → ℕ → ℕ → Option SymbolicReference
 symbolic_reference_of c op index =
     if op == 178 then option_map Getstatic (named_field c.pool index)
@@ -128,8 +128,9 @@ multi_of dimensions name = Multianewarray name dimensions
 abbrev pub array_reference : ClassFile → ℕ → ℕ → ℕ → Option SymbolicReference
 array_reference c op index dimensions = if op == 197 then option_map (multi_of dimensions) (named_class c.pool index) else None
 
--- What an array type has for dimensions (4.9.1): anewarray names one of fewer than 255, multianewarray one of at least as many as are
--- given, which are 1 or more. An instruction that names another is none; decoded code that was looked at has none such.
+-- What an array type has for dimensions (4.9.1): anewarray names one of fewer than 255, multianewarray one of at least
+-- as many as are given, which are 1 or more. An instruction that names another is none; decoded code that was looked at
+-- has none such.
 abbrev pub has_dimensions : SymbolicReference → Bool
 has_dimensions (Anewarray name) = nat_lt (meaning_of name).dimensions 255
 has_dimensions (Multianewarray name dimensions) = nat_le 1 dimensions && nat_le dimensions (meaning_of name).dimensions
@@ -160,8 +161,8 @@ abbrev pub object_among : List ObjectRow → ℕ → Option (Operation Local)
 object_among [] op = None
 object_among (r ∷ rs) op = if op == r.op then Some r.operation else object_among rs op
 
--- newarray, with the kind of its array: the codes of the eight primitive types are 4 to 11 (6.5). With another code it is none; decoded code
--- that was looked at has none such.
+-- newarray, with the kind of its array: the codes of the eight primitive types are 4 to 11 (6.5). With another code it
+-- is none; decoded code that was looked at has none such.
 abbrev pub newarray_of : ℕ → ℕ → Option (Operation Local)
 newarray_of op code = if op == 188 && is_in_range 4 11 code then Some (Newarray (array_kind code)) else None
 

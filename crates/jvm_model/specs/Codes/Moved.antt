@@ -1,4 +1,5 @@
--- The same state elsewhere: each frame at the home of its place in another version, and each return address at its home.
+-- The same state elsewhere: each frame at the home of its place in another version, and each return address at its
+-- home.
 use Rattle.std.specs.Prelude.{◌≡◌, ℕ, ◌<◌, List, [], ◌∷◌, map, Option}
 use Rattle.std.specs.Option.{option_map}
 use Rattle.heap_objects.specs.declared.Value.TheVariants.{Int, Long, Ref, Addr}

@@ -20,6 +20,7 @@ method_reading c method = option_map_or (λ (code : CodeAttribute). read_from (l
 abbrev pub is_start_in : List Instr → ℕ → Bool
 is_start_in instrs at = list_any (λ (i : Instr). i.at == at) instrs
 
--- Where a frame of the method can stand; each method begins at 0. Of a method that has no Code in the class nothing is said.
+-- Where a frame of the method can stand; each method begins at 0. Of a method that has no Code in the class nothing is
+-- said.
 abbrev pub is_place : ClassFile → ℕ → ℕ → Bool
 is_place c method at = if is_some (method_code c method) then at == 0 || is_start_in (method_reading c method) at else true

@@ -1,4 +1,5 @@
--- ldc and ldc_w of a String and of a Class (JVM Specification 5.1, 6.5). Where there is no room for the object, object 1 is thrown.
+-- ldc and ldc_w of a String and of a Class (JVM Specification 5.1, 6.5). Where there is no room for the object, object
+-- 1 is thrown.
 use Rattle.std.specs.Prelude.{ℕ, List, ◌∷◌, if◌then◌else◌}
 use Rattle.heap_objects.specs.declared.Value.TheVariants.{Ref}
 use Rattle.heap_objects.specs.Heaps.{interned_number, with_interned}

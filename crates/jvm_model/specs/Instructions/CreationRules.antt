@@ -1,5 +1,6 @@
--- new, anewarray, multianewarray, checkcast and instanceof (JVM Specification 5.4.3.1, 6.5). In order: the name is resolved, the class
--- of a new object is initialized, the operands are looked at, then what the instruction asks besides, and at last the heap's room.
+-- new, anewarray, multianewarray, checkcast and instanceof (JVM Specification 5.4.3.1, 6.5). In order: the name is
+-- resolved, the class of a new object is initialized, the operands are looked at, then what the instruction asks
+-- besides, and at last the heap's room.
 use Rattle.std.specs.Prelude.{ℕ, zero, suc, ◌+◌, ◌-◌, ◌*◌, Bool, false, List, [], ◌∷◌, length, map, drop, Option, Some, None, nat_le, ℤ, pos, negsuc, codes, ◌||◌, if◌then◌else◌}
 use Rattle.std.specs.List.{list_any}
 use Rattle.std.specs.Option.{option_map, option_map_or}
@@ -23,7 +24,8 @@ use Rattle.jvm_model.specs.Instructions.Rules.{class_initialized}
 use Rattle.jvm_model.specs.Basis.SharedState.{class_of_kind, negative_array_size, null, string}
 use Rattle.jvm_model.specs.Basis.Values.{int_of, ref_of}
 
--- The object that is made next takes the place of so many operands. Where there is no room for its slots, object 1 is thrown.
+-- The object that is made next takes the place of so many operands. Where there is no room for its slots, object 1 is
+-- thrown.
 abbrev pub allocates : ℕ → (HeapView → HeapView) → ℕ → Shared → Locals → Operands → Done
 allocates slots make taken s l o =
     if nat_le (s.heap.used + slots) s.heap.limit
@@ -106,7 +108,8 @@ lengths_of [] = Some []
 lengths_of (pos n ∷ more) = option_map (λ lengths. n ∷ lengths) (lengths_of more)
 lengths_of (negsuc n ∷ more) = None
 
--- The slots of all arrays: those of one, and for each of its elements those of a part. Below a dimension of 0 there are none.
+-- The slots of all arrays: those of one, and for each of its elements those of a part. Below a dimension of 0 there are
+-- none.
 abbrev pub slots_of_arrays : List ℕ → ℕ
 slots_of_arrays [] = 0
 slots_of_arrays (n ∷ more) = 1 + n + n * slots_of_arrays more

@@ -1,6 +1,6 @@
--- What each instruction asks for (JVM Specification 2.6, 2.11, 5.4.3, 5.5, 6.5), and what it loads before. A rule sees what is shared and
--- its frame's locals and operands, and no place: neither its own, nor the following one, nor a target. So it says the same of a frame
--- that stands elsewhere, as in a rewritten code.
+-- What each instruction asks for (JVM Specification 2.6, 2.11, 5.4.3, 5.5, 6.5), and what it loads before. A rule sees
+-- what is shared and its frame's locals and operands, and no place: neither its own, nor the following one, nor a
+-- target. So it says the same of a frame that stands elsewhere, as in a rewritten code.
 use Rattle.std.specs.Prelude.{ℕ, List, []}
 use Rattle.jvm_model.specs.Basis.Data.{Locals, Operands, Shared, World, Local, Operation, Within, Named, Athrow, Monitor, Newarray, Arraylength, LoadElement, StoreElement, LdcString, Done}
 use Rattle.jvm_model.specs.Instructions.ConstantRules.{pushes_string}

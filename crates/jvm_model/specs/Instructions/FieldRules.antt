@@ -1,5 +1,5 @@
--- getstatic, putstatic, getfield and putfield (JVM Specification 2.7, 5.4.3.2, 6.5). In order: the field is resolved, its class is
--- initialized where it is static, the operands are looked at, then null, then the class of the object.
+-- getstatic, putstatic, getfield and putfield (JVM Specification 2.7, 5.4.3.2, 6.5). In order: the field is resolved,
+-- its class is initialized where it is static, the operands are looked at, then null, then the class of the object.
 use Rattle.std.specs.Prelude.{ℕ, ◌+◌, Bool, true, false, not, List, [], ◌∷◌, length, drop, take, flat_map, count_by, Option, Some, None, Result, slice_get, ◌&&◌}
 use Rattle.std.specs.Bool.{beq}
 use Rattle.std.specs.Option.{option_and_then, option_map, option_map_or}

@@ -1,6 +1,6 @@
--- invokestatic, invokespecial, invokevirtual and invokeinterface (JVM Specification 2.11.8, 5.4.3.3, 5.4.3.4, 6.5). In order: the
--- method is resolved, its class is initialized where it is static, the operands are looked at, then null, then the class of the receiver,
--- and then what is selected.
+-- invokestatic, invokespecial, invokevirtual and invokeinterface (JVM Specification 2.11.8, 5.4.3.3, 5.4.3.4, 6.5). In
+-- order: the method is resolved, its class is initialized where it is static, the operands are looked at, then null,
+-- then the class of the receiver, and then what is selected.
 use Rattle.std.specs.Prelude.{ℕ, Bool, true, false, List, ◌∷◌, length, drop, Option, Some, None, Result, nat_lt, codes, if◌then◌else◌}
 use Rattle.std.specs.Bool.{beq}
 use Rattle.std.specs.Option.{option_and_then, option_map}
@@ -100,7 +100,8 @@ names_interface Virtual = false
 names_interface OfInterface = true
 names_interface (Special caller interface) = interface
 
--- A receiver that does not implement the interface raises; every other one that is not of the named class is unverifiable.
+-- A receiver that does not implement the interface raises; every other one that is not of the named class is
+-- unverifiable.
 abbrev pub not_of_class : Selecting → Outcome
 not_of_class Virtual = Breaks false
 not_of_class OfInterface = Raises incompatible_change None

@@ -1,4 +1,5 @@
--- What an instruction asks for that sees nothing but the locals and operands of its frame (JVM Specification 2.11, 6.5).
+-- What an instruction asks for that sees nothing but the locals and operands of its frame (JVM Specification 2.11,
+-- 6.5).
 use Rattle.std.specs.Prelude.{ℕ, suc, Bool, true, false, not, List, [], ◌∷◌, drop, Option, Some, None, slice_get, nat_lt, ◌==◌, ◌&&◌, if◌then◌else◌, ℤ, pos, negsuc, ◌-ℤ◌, int_lt, int_rem, codes}
 use Rattle.std.specs.Option.{option_map}
 use Rattle.std.specs.Ordering.{int_eq}

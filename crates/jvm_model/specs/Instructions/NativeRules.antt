@@ -1,5 +1,5 @@
--- The native methods of the built-in classes (JVM Specification 2.11.8, 5.5, 6.5): what native_ops says of them, over the classes that are
--- loaded, the heap, what was made once, and the input. No rule sees a frame.
+-- The native methods of the built-in classes (JVM Specification 2.11.8, 5.5, 6.5): what native_ops says of them, over
+-- the classes that are loaded, the heap, what was made once, and the input. No rule sees a frame.
 use Rattle.std.specs.Prelude.{ℕ, ◌%◌, Bool, true, false, List, slice_get, Option, Some, None, ◌==◌, ◌&&◌, if◌then◌else◌}
 use Rattle.std.specs.Option.{option_and_then, option_map, option_map_or}
 use Rattle.const_pool.specs.BuiltIn.{built_in_names}
@@ -38,7 +38,8 @@ kinds_in p loaded = record {
 
 -- ---- what a native method answers
 
--- An allocation that passes the limit throws object 1, also where a native method asked for it. Every other exception is made.
+-- An allocation that passes the limit throws object 1, also where a native method asked for it. Every other exception
+-- is made.
 abbrev pub thrown_by : ℕ → Outcome
 thrown_by class =
     if class == out_of_memory_error then Throws 1

@@ -1,5 +1,5 @@
--- Instructions that see objects: arrays, monitors and athrow (JVM Specification 2.10, 2.11.5, 2.11.10, 6.5). Null is asked first, then
--- the class of the object, then what the instruction asks besides.
+-- Instructions that see objects: arrays, monitors and athrow (JVM Specification 2.10, 2.11.5, 2.11.10, 6.5). Null is
+-- asked first, then the class of the object, then what the instruction asks besides.
 use Rattle.std.specs.Prelude.{ℕ, ◌+◌, ◌-◌, Bool, true, false, [], ◌∷◌, drop, nat_le, Option, Some, None, ℤ, pos, negsuc, ◌==◌, ◌||◌, if◌then◌else◌}
 use Rattle.std.specs.Option.{option_and_then, option_map, option_map_or}
 use Rattle.std.specs.Fmt.{signed_decimal}
@@ -76,8 +76,8 @@ serves k e = false
 abbrev pub serves_object : Kind → ℕ → HeapView → Bool
 serves_object k r h = option_map_or (λ kind. serves k (element_of kind)) (kind_at r h) false
 
--- Where an array and an index lead: the array is null, or the object none that the instruction serves, or the index is outside, or it
--- is that of an element.
+-- Where an array and an index lead: the array is null, or the object none that the instruction serves, or the index is
+-- outside, or it is that of an element.
 pub data Access : Type 0 where
   ToNull : Access
   ToAnother : Access

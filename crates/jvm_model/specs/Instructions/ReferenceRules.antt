@@ -1,5 +1,5 @@
--- Every instruction that names a class, a field or a method, and ldc of a Class (JVM Specification 6.5), once what it names
--- is loaded.
+-- Every instruction that names a class, a field or a method, and ldc of a Class (JVM Specification 6.5), once what it
+-- names is loaded.
 use Rattle.jvm_model.specs.Instructions.ConstantRules.{pushes_class}
 use Rattle.jvm_model.specs.Instructions.CreationRules.{casts, makes_array_of, makes_multi, makes_new, tells_instance}
 use Rattle.jvm_model.specs.Basis.Data.{Locals, Operands, Shared, World, Done, SymbolicReference, New, Getfield, Putfield, Getstatic, Putstatic, Invokevirtual, Invokespecial, Invokestatic, Invokeinterface, Checkcast, Instanceof, Anewarray, Multianewarray, LdcClass}

@@ -1,5 +1,5 @@
--- What the rules of instructions have in common (JVM Specification 2.6, 2.11, 5.4.3, 5.5, 6.5): a class that is initialized before, an
--- invocation, and the members that are known by name.
+-- What the rules of instructions have in common (JVM Specification 2.6, 2.11, 5.4.3, 5.5, 6.5): a class that is
+-- initialized before, an invocation, and the members that are known by name.
 use Rattle.std.specs.Prelude.{ℕ, Bool, false, List, drop, Option, Some, None, ◌&&◌, codes}
 use Rattle.const_pool.specs.References.{Reference}
 use Rattle.jvm_model.specs.Basis.Data.{Datum, Operands, Phase, Fresh, Running, Ready, Erroneous, Program, Shared, Outcome, Invokes, Raises, Initializes, Breaks, Done}

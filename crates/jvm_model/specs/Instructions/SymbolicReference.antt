@@ -1,5 +1,6 @@
--- Instructions that name a class, a field or a method, and what such a name comes to (JVM Specification 5.4.3, 6.5). The class that is
--- named is loaded before the instruction is attempted, so a rule sees the classes that are loaded then.
+-- Instructions that name a class, a field or a method, and what such a name comes to (JVM Specification 5.4.3, 6.5).
+-- The class that is named is loaded before the instruction is attempted, so a rule sees the classes that are loaded
+-- then.
 use Rattle.std.specs.Prelude.{ℕ, Bool, true, false, not, List, [], length, drop, Option, Some, None, Result, Ok, Err, ◌==◌, if◌then◌else◌}
 use Rattle.std.specs.Option.{ok_or, option_map_or}
 use Rattle.heap_objects.specs.Heaps.{HeapView, kind_at}
@@ -38,7 +39,8 @@ resolved_name (LdcClass name) = name
 abbrev pub is_null : Operands → Bool
 is_null o = option_map_or (λ r. r == 0) (ref_of o) false
 
--- checkcast and instanceof of null resolve nothing. An operand that is missing or of another kind is looked at behind the resolution.
+-- checkcast and instanceof of null resolve nothing. An operand that is missing or of another kind is looked at behind
+-- the resolution.
 abbrev pub resolves : SymbolicReference → Operands → Bool
 resolves (Checkcast name) o = not (is_null o)
 resolves (Instanceof name) o = not (is_null o)
@@ -108,7 +110,7 @@ is_below_kind p _ _ = false
 abbrev pub is_instance : Program → HeapView → ℕ → List ℕ → Bool
 is_instance p h object name = is_below_kind p (kind_at object h) (kind_named p name)
 
--- The class is the other one, or inherits from it. An interface may have a superclass that is not java/lang/Object: what implements it
--- is a subtype of that class, and inherits no field and no method from it.
+-- The class is the other one, or inherits from it. An interface may have a superclass that is not java/lang/Object:
+-- what implements it is a subtype of that class, and inherits no field and no method from it.
 abbrev pub extends : Program → ℕ → ℕ → Bool
 extends p class above = is_among above (superclasses p class)

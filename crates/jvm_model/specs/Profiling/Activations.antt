@@ -1,5 +1,5 @@
--- The activations of a run (JVM Specification 2.6): which method was invoked by which activation, in which step it began,
--- and in which it ended. The changes of each step are folded, one after another.
+-- The activations of a run (JVM Specification 2.6): which method was invoked by which activation, in which step it
+-- began, and in which it ended. The changes of each step are folded, one after another.
 use Rattle.std.specs.Prelude.{◌≡◌, ℕ, zero, suc, List, [], ◌∷◌, ◌++◌, length, Option, Some, None, refl, slice_get, slice_set}
 use Rattle.std.specs.Option.{option_map_or}
 use Rattle.jvm_model.specs.Basis.Data.{Change, Loads, Began, Left, Unwound, Listing, World}
@@ -14,7 +14,8 @@ pub record Activation : Type 0 where
   pub begin : ℕ
   pub «end» : Option ℕ
 
--- All activations so far, in order of begin, which numbers them; and the numbers of the live ones, the current one first.
+-- All activations so far, in order of begin, which numbers them; and the numbers of the live ones, the current one
+-- first.
 pub record Trace : Type 0 where
   pub activations : List Activation
   pub live : List ℕ

@@ -1,5 +1,6 @@
 -- Paths and contexts: activations are merged exactly where they have the same path, the list of methods from the
--- outermost root activation down (a calling-context tree, Ammons, Ball and Larus 1997, in which recursion is not folded).
+-- outermost root activation down (a calling-context tree, Ammons, Ball and Larus 1997, in which recursion is not
+-- folded).
 use Rattle.std.specs.Prelude.{ℕ, Bool, not, List, [], ◌∷◌, length, map, filter, count_by, nat_eq, ◌==◌}
 use Rattle.std.specs.List.{starts_with}
 use Rattle.std.specs.Str.{bytes_eq}

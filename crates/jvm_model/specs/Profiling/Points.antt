@@ -1,5 +1,6 @@
--- Points: the moments of a profiled run at which marks are computed, and the marks there. What stands at them follows from the actions,
--- from the changes of each step, and from which activations are profiled; it knows nothing of versions, probes and events.
+-- Points: the moments of a profiled run at which marks are computed, and the marks there. What stands at them follows
+-- from the actions, from the changes of each step, and from which activations are profiled; it knows nothing of
+-- versions, probes and events.
 use Rattle.std.specs.Prelude.{◌≡◌, refl, ℕ, zero, suc, Bool, true, false, not, List, [], ◌∷◌, ◌++◌, filter, slice_get, ◌==◌, ◌&&◌, if◌then◌else◌}
 use Rattle.std.specs.List.{list_any}
 use Rattle.std.specs.Option.{option_map_or}
@@ -127,8 +128,8 @@ mark_in p code s method =
     (if is_among method s.selected then Root else if is_target p code s.loaded s.entered method then Plain else Off)
     else Off
 
--- What stands where an activation begins in a step. An end is no point and changes no mark, and an activation begins behind all else: so
--- these are the marks of the last point before it.
+-- What stands where an activation begins in a step. An end is no point and changes no mark, and an activation begins
+-- behind all else: so these are the marks of the last point before it.
 abbrev pub before_begin : List Act → ℕ → Standing → List Change → Standing
 before_begin acts step s [] = s
 before_begin acts step s (Began method ∷ more) = s

@@ -1,5 +1,5 @@
--- What the loading of one class adds to the targets of a method: so a revelation looks at the instructions that name this class, and at
--- the calls that name a class above it, and at nothing else.
+-- What the loading of one class adds to the targets of a method: so a revelation looks at the instructions that name
+-- this class, and at the calls that name a class above it, and at nothing else.
 use Rattle.std.specs.Prelude.{◌≡◌, ℕ, Bool, false, List, [], ◌∷◌, ◌++◌, flat_map, filter_map, Option, Some, None, ◌==◌, if◌then◌else◌}
 use Rattle.std.specs.Option.{option_and_then, option_map, option_map_or}
 use Rattle.const_pool.specs.References.{Reference}

@@ -1,4 +1,5 @@
--- The points of a run in order, each with what stands at it, and the classes whose marks change at one, with their images.
+-- The points of a run in order, each with what stands at it, and the classes whose marks change at one, with their
+-- images.
 use Rattle.std.specs.Prelude.{◌≡◌, refl, ℕ, zero, suc, Bool, true, false, not, List, [], ◌∷◌, ◌++◌, map, filter, count_by, nat_lt, Option, Some, unwrap_or, ◌==◌, ◌&&◌, if◌then◌else◌}
 use Rattle.std.specs.List.{list_any, enumerate_from}
 use Rattle.std.specs.Option.{option_map_or}

@@ -1,5 +1,5 @@
--- Targets: the methods with Code that an instruction of a method can begin, over the loaded classes and before it is executed (JVM
--- Specification 2.11.8, 5.4.3, 5.4.5, 5.5, 6.5). Nothing is loaded for them.
+-- Targets: the methods with Code that an instruction of a method can begin, over the loaded classes and before it is
+-- executed (JVM Specification 2.11.8, 5.4.3, 5.4.5, 5.5, 6.5). Nothing is loaded for them.
 use Rattle.std.specs.Prelude.{ℕ, Bool, true, false, List, [], ◌++◌, filter, flat_map, filter_map, Option, Some, None, unwrap_or, nat_lt, if◌then◌else◌}
 use Rattle.std.specs.Bool.{beq}
 use Rattle.std.specs.Option.{option_and_then, option_map_or, option_to_list}

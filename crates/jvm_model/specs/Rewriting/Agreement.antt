@@ -64,8 +64,9 @@ leave_probe_of method true = Some (record { kind = kind.Leave; number = method }
 leave_probe_of method false = None
 
 -- In the image each line of the class stands at its place and goes on to the home of the next one; a leave probe stands
--- at the home of a return of a marked method, and no probe at any other home; an entry probe stands at 0 where the method
--- is marked, and none where it is not; the first instruction is behind it, and no probe stands at a return itself.
+-- at the home of a return of a marked method, and no probe at any other home; an entry probe stands at 0 where the
+-- method is marked, and none where it is not; the first instruction is behind it, and no probe stands at a return
+-- itself.
 pub record Agrees (c : ClassFile) (marks : List Mark) (image : ClassFile) (homes : List (Option Homes)) : Type 0 where
   pub lines : (method at : ℕ) (line : Line) → IsStart c method at → line_at c method at ≡ Some line
       → version_line image homes method (place_at marks homes method at line.operation) ≡ Some (record line { next = option_map (home_at homes method) line.next })

@@ -1,6 +1,6 @@
--- The attributes of a version's Code in an image (JVM Specification 4.7.4, 4.7.8, 4.7.9, 4.7.10): rows of debug tables and frames by
--- homes, and a frame for the handler that is added. A table that breaks its grammar, or whose frames a table can't have, stays as it
--- is: no class that passed admission has one.
+-- The attributes of a version's Code in an image (JVM Specification 4.7.4, 4.7.8, 4.7.9, 4.7.10): rows of debug tables
+-- and frames by homes, and a frame for the handler that is added. A table that breaks its grammar, or whose frames a
+-- table can't have, stays as it is: no class that passed admission has one.
 use Rattle.std.specs.Prelude.{ℕ, Bool, true, not, List, [], ◌∷◌, ◌++◌, length, map, Option, Some, None, Result, Ok, Err, codes, nat_le, nat_lt, ◌==◌, ◌&&◌, ◌||◌, if◌then◌else◌}
 use Rattle.std.specs.List.{list_any}
 use Rattle.const_pool.specs.declared.class.ClassFile.{ClassFile}
@@ -55,8 +55,8 @@ is_writable frames = nat_le (length frames) 65535 && rise_from None frames
 abbrev pub written_or_kept : List ℕ → List Frame → List ℕ
 written_or_kept bytes frames = if is_writable frames then table_bytes frames else bytes
 
--- The frames by homes, and behind them the one of the added handler, which stands at the home of the code's end. The class at the index
--- `throwable` is java/lang/Throwable.
+-- The frames by homes, and behind them the one of the added handler, which stands at the home of the code's end. The
+-- class at the index `throwable` is java/lang/Throwable.
 abbrev pub frames_with_last : ℕ → Homes → ℕ → List Frame → List Frame
 frames_with_last throwable homes end frames = moved_frames homes frames ++ last_frame (home_of homes end) throwable ∷ []
 

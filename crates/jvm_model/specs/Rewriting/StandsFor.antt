@@ -1,5 +1,5 @@
--- How a machine that runs rewritten classes stands for the run of the original ones: its states are the same but for where
--- the frames stand. A frame stands at the home of its offset, in the version of its method.
+-- How a machine that runs rewritten classes stands for the run of the original ones: its states are the same but for
+-- where the frames stand. A frame stands at the home of its offset, in the version of its method.
 use Rattle.std.specs.Prelude.{ℕ, ◌+◌, List, Option, Some, None, unwrap_or, slice_get, codes, ◌==◌, if◌then◌else◌}
 use Rattle.std.specs.Option.{option_and_then, option_map}
 use Rattle.std.specs.Int.{w16, cast_unsigned}

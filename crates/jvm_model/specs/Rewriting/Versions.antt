@@ -53,11 +53,13 @@ laid_version count number mark instrs = laid_of (entry_probe count number mark) 
 abbrev pub moved_handler : Homes → Handler → Handler
 moved_handler homes h = record h { start = home_of homes h.start; end = home_of homes h.end; handler = home_of homes h.handler }
 
--- The last handler takes whatever leaves the original code, to the unwind probe. Its range begins behind the entry probe.
+-- The last handler takes whatever leaves the original code, to the unwind probe. Its range begins behind the entry
+-- probe.
 abbrev pub catch_all : Homes → ℕ → Handler
 catch_all homes end = record { start = home_of homes 0; end = home_of homes end; handler = home_of homes end; catch_class = 0 }
 
--- the Code attribute of a version, of the code that was laid out, without its attributes: no step reads frames or debug tables
+-- the Code attribute of a version, of the code that was laid out, without its attributes: no step reads frames or debug
+-- tables
 abbrev pub code_with : CodeAttribute → Laid → CodeAttribute
 code_with old laid = record old {
   max_stack = max (old.max_stack + 1) 2;
@@ -66,8 +68,8 @@ code_with old laid = record old {
   attributes = [];
 }
 
--- The version of a method with this number, for a mark other than Off. A code has at most one reading. The version's code fits, and its
--- branches reach. What becomes of the attributes is said of the image.
+-- The version of a method with this number, for a mark other than Off. A code has at most one reading. The version's
+-- code fits, and its branches reach. What becomes of the attributes is said of the image.
 pub record IsVersion (count number : ℕ) (mark : Mark) (old new : CodeAttribute) (homes : Homes) : Type 0 where
   pub reading : Code
   pub reads : IsReading old.code reading

@@ -1,4 +1,5 @@
--- What becomes of a state by an outcome: one function, for all instructions (JVM Specification 2.6, 2.6.4, 2.6.5, 2.10, 2.17).
+-- What becomes of a state by an outcome: one function, for all instructions (JVM Specification 2.6, 2.6.4, 2.6.5, 2.10,
+-- 2.17).
 use Rattle.std.specs.Prelude.{ℕ, suc, Bool, true, false, List, [], ◌∷◌, length, Option, Some, None, slice_get, nat_le, nat_lt, if◌then◌else◌}
 use Rattle.std.specs.Option.{option_map}
 use Rattle.heap_objects.specs.declared.Value.TheVariants.{Addr}
@@ -18,8 +19,8 @@ with_frame s f = record s { stack = Active f ∷ s.stack }
 abbrev pub breaks : State → Frame → ℕ → State
 breaks s f own = record s { stack = Active f ∷ s.stack; ending = Some (Unverifiable f.method own) }
 
--- The frame goes on with these locals and operands, at a place, unless they are deeper than its limit (4.9.2): then the run ends
--- at the instruction at which it stood before, whose original offset is given, and the frame stays as it was.
+-- The frame goes on with these locals and operands, at a place, unless they are deeper than its limit (4.9.2): then the
+-- run ends at the instruction at which it stood before, whose original offset is given, and the frame stays as it was.
 abbrev pub goes : State → Frame → ℕ → Locals → Operands → Option ℕ → State
 goes s f own l o None = breaks s f own
 goes s f own l o (Some place) =

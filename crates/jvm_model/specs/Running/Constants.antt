@@ -1,5 +1,5 @@
--- The first part of a class's initialization (JVM Specification 4.7.2, 5.5): its static fields that have a ConstantValue are set, in the
--- order of the class file.
+-- The first part of a class's initialization (JVM Specification 4.7.2, 5.5): its static fields that have a
+-- ConstantValue are set, in the order of the class file.
 use Rattle.std.specs.Prelude.{ℕ, ◌+◌, Bool, List, [], ◌∷◌, length, Option, Some, None, is_some, nat_le, ◌||◌, if◌then◌else◌}
 use Rattle.std.specs.Option.{option_and_then, option_map, option_map_or}
 use Rattle.heap_objects.specs.declared.datum.Datum.TheVariants as datum

@@ -1,4 +1,5 @@
--- The run of a program as a function of the number of steps: a step is one attempt of an instruction, and all moves behind it.
+-- The run of a program as a function of the number of steps: a step is one attempt of an instruction, and all moves
+-- behind it.
 use Rattle.std.specs.Prelude.{◌≡◌, ℕ, zero, suc, ◌+◌, Bool, true, false, List, [], ◌∷◌, ◌++◌, drop, length, unwrap_or, Option, Some, None, refl, ◌&&◌, if◌then◌else◌}
 use Rattle.std.specs.Option.{option_map_or}
 use Rattle.std.proofs.Common.{ap, ◌∙◌, add-one}

@@ -1,5 +1,5 @@
--- Operations with their names looked up in the class itself (JVM Specification 5.4.3), as the machine keeps them: those of
--- a small class.
+-- Operations with their names looked up in the class itself (JVM Specification 5.4.3), as the machine keeps them: those
+-- of a small class.
 use Rattle.std.specs.Prelude.{ℕ, Option, Some, None, if◌then◌else◌}
 use Rattle.std.specs.Option.{option_and_then, option_map}
 use Rattle.heap_objects.specs.declared.datum.Datum.{Datum}

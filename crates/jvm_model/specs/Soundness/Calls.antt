@@ -1,5 +1,5 @@
--- What a law on the steps of a run says of calls: each activation that begins is of a method of a loaded class, and one that has a parent
--- is a target of the parent's method, over the classes that are loaded by then.
+-- What a law on the steps of a run says of calls: each activation that begins is of a method of a loaded class, and one
+-- that has a parent is a target of the parent's method, over the classes that are loaded by then.
 use Rattle.std.specs.Prelude.{◌≡◌, ◌≤◌, ℕ, zero, suc, Bool, true, false, List, [], ◌∷◌, ◌++◌, length, Some, unwrap_or, ◌==◌, ◌||◌}
 use Rattle.std.specs.Option.{option_map_or}
 use Rattle.const_pool.specs.declared.class.ClassFile.{ClassFile}

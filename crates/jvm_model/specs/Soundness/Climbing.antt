@@ -1,5 +1,5 @@
--- What the law of calls asks of a program and of its loaded classes: walks upwards go on, and java/lang/Object has nothing above it and no
--- method with Code.
+-- What the law of calls asks of a program and of its loaded classes: walks upwards go on, and java/lang/Object has
+-- nothing above it and no method with Code.
 use Rattle.std.specs.Prelude.{◌≡◌, ℕ, true, List, [], None, Some, is_some}
 use Rattle.jvm_model.specs.Basis.Data.{Program, Outcome, Invokes, Initializes}
 use Rattle.jvm_model.specs.Basis.KindNumbers.{user_count}

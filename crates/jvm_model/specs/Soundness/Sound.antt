@@ -1,4 +1,5 @@
--- What is there is of classes that are loaded (JVM Specification 5.3, 5.4, 5.5): an instruction that names something is attempted in such states alone.
+-- What is there is of classes that are loaded (JVM Specification 5.3, 5.4, 5.5): an instruction that names something is
+-- attempted in such states alone.
 use Rattle.std.specs.Prelude.{◌≡◌, ◌≤◌, ◌<◌, ◌%◌, ℕ, true, false, List, length, Some}
 use Rattle.std.specs.List.{AllByRecursion, list_any}
 use Rattle.const_pool.specs.BuiltIn.{built_in_names}
@@ -65,8 +66,8 @@ pub record IsPrimitiveArray (kind : ℕ) : Type 0 where
   pub array : 16777216 ≤ kind
   pub primitive : kind < 16777232
 
--- What an attempt asks: of an instruction that names an array's type that it has the dimensions that it needs, and of newarray that
--- its array's elements are of a primitive type (4.9.1).
+-- What an attempt asks: of an instruction that names an array's type that it has the dimensions that it needs, and of
+-- newarray that its array's elements are of a primitive type (4.9.1).
 abbrev pub CanAttempt : Program → List ℕ → Operation Local → Type 0
 CanAttempt p loaded (Named n) = HasLoadedCaller p loaded n × (has_dimensions n ≡ true)
 CanAttempt p loaded (Newarray kind) = IsPrimitiveArray kind
@@ -104,8 +105,8 @@ pub record HasPlainName (p : Program) (class : ℕ) : Type 0 where
   pub named : name_at p class ≡ Some name
   pub plain : is_array_name name ≡ false
 
--- What is asked of a program: at most 4,096 classes stand before the built-in ones, no two have one name, and the built-in ones name
--- classes above themselves that are built in.
+-- What is asked of a program: at most 4,096 classes stand before the built-in ones, no two have one name, and the
+-- built-in ones name classes above themselves that are built in.
 pub record IsFit (p : Program) : Type 0 where
   pub few : length p.classes ≤ 4149
   pub names : (class : ℕ) (name : List ℕ) → name_at p class ≡ Some name → class_named p name ≡ Some class

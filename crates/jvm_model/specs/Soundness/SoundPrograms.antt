@@ -1,5 +1,5 @@
--- A sound program, as far as what runs it, rewrites it and tells of it has to know: what it is made of, and what the rules of admission come
--- to for its names and its codes.
+-- A sound program, as far as what runs it, rewrites it and tells of it has to know: what it is made of, and what the
+-- rules of admission come to for its names and its codes.
 use Rattle.std.specs.Prelude.{◌≡◌, ◌≤◌, ◌<◌, ℕ, true, false, List, ◌++◌, length, Option, Some, None, is_some, nat_lt, if◌then◌else◌}
 use Rattle.std.specs.List.{AllByRecursion}
 use Rattle.std.specs.Option.{option_and_then}
@@ -51,9 +51,9 @@ HasOperations p = (method : ℕ) (place : MethodPlace) (c : ClassFile) (code : C
 
 -- ---- the program
 
--- A program of these classes with the main method of the class of this name: at most 4,096 classes, none of which has the name of a built-in
--- one, and behind them the built-in ones, each a class file; its methods are those that have Code, at most 32,768; its acts name methods of
--- it; and its codes are sound.
+-- A program of these classes with the main method of the class of this name: at most 4,096 classes, none of which has
+-- the name of a built-in one, and behind them the built-in ones, each a class file; its methods are those that have
+-- Code, at most 32,768; its acts name methods of it; and its codes are sound.
 pub record IsSoundProgram (own : List ClassFile) (name : List ℕ) (p : Program) : Type 0 where
   pub few_classes : length own ≤ 4096
   pub classes_are : p.classes ≡ own ++ built_in_files

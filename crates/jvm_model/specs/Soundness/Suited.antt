@@ -1,5 +1,5 @@
--- Markings under which the events of a run tell its projection: a root's version tells a root, and no other's does; and whatever is
--- profiled is told.
+-- Markings under which the events of a run tell its projection: a root's version tells a root, and no other's does; and
+-- whatever is profiled is told.
 use Rattle.std.specs.Prelude.{◌≡◌, ◌≢◌, ℕ, Bool, true, List, [], ◌∷◌, Some, slice_get}
 use Rattle.jvm_model.specs.declared.event.Act.{Act}
 use Rattle.jvm_model.specs.declared.event.Mark.{Mark}

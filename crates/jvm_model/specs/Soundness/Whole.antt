@@ -41,8 +41,8 @@ HasSoundCodes p = (v : ℕ) (place : MethodPlace) (c : ClassFile) (code : CodeAt
 
 -- ---- a program
 
--- Its classes are its own, none of which has the name of a built-in one, and behind them the built-in ones; its methods are numbered; its
--- main method is one; and its codes are sound.
+-- Its classes are its own, none of which has the name of a built-in one, and behind them the built-in ones; its methods
+-- are numbered; its main method is one; and its codes are sound.
 pub record IsWhole (p : Program) : Type 0 where
   pub fit : IsFit p
   pub own : List ClassFile

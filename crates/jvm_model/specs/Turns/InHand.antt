@@ -1,5 +1,6 @@
--- What is in hand between two turns of a step, over versions: the machine's state stands for a state of the original code from which the rest of
--- the step goes on. So many of the step's changes are behind it; the probe of the end that comes next has told, or has not.
+-- What is in hand between two turns of a step, over versions: the machine's state stands for a state of the original
+-- code from which the rest of the step goes on. So many of the step's changes are behind it; the probe of the end that
+-- comes next has told, or has not.
 use Rattle.std.specs.Prelude.{◌≡◌, ℕ, suc, Bool, true, false, List, [], ◌∷◌, drop}
 use Rattle.jvm_model.specs.declared.event.Mark.{Mark}
 use Rattle.jvm_model.specs.Basis.Data.{State, Turn, Listing, World}
@@ -10,7 +11,8 @@ use Rattle.jvm_model.specs.Turns.Told.{Held, helds}
 use Rattle.jvm_model.specs.Turns.Pauses.{later_of, Nothing, Pause, step_paused, is_end, stop_from, stop_of}
 use Rattle.jvm_model.specs.Turns.StepPauses.{step_pause, Awaits, NeedsNoLoad}
 
--- The versions: of which method each is, where its places stand, and its mark. They are the same for a version as long as a frame runs it.
+-- The versions: of which method each is, where its places stand, and its mark. They are the same for a version as long
+-- as a frame runs it.
 pub record Versioned : Type 0 where
   pub norm : ℕ → ℕ → ℕ
   pub method_of : ℕ → ℕ
@@ -43,8 +45,8 @@ goes_from w u x delivered n Attempt s unwound = step_pause w u x.mark_of deliver
 goes_from w u x false n Moves s unwound = step_paused w u x.mark_of n s
 goes_from w u x true n Moves s unwound = step_paused w u x.mark_of (suc n) unwound
 
--- What the machine comes to by that: where the step's changes say, with the rest of the same step in hand; and where nothing is told more, it stands for
--- the state after the step.
+-- What the machine comes to by that: where the step's changes say, with the rest of the same step in hand; and where
+-- nothing is told more, it stands for the state after the step.
 pub record GoesOn (w : World) (t : Listing) (x : Versioned) (current : ℕ → ℕ) (turn : Turn) (passed : ℕ) (delivered : Bool) (live : List Held) (p : Pause) : Type 0 where
   pub later : Todo
   pub hand : InHand w t x turn p.passed (is_end p.due) (helds x.mark_of p.state.stack) later p.state

@@ -1,4 +1,5 @@
--- Where a step stops on its way: at the first of its changes of which a probe tells. An end is told before it comes, a begin behind it.
+-- Where a step stops on its way: at the first of its changes of which a probe tells. An end is told before it comes, a
+-- begin behind it.
 use Rattle.std.specs.Prelude.{◌≡◌, ℕ, zero, suc, Bool, true, false, List, [], ◌∷◌, ◌++◌, Option, Some, None, if◌then◌else◌}
 use Rattle.std.specs.Option.{option_map_or}
 use Rattle.jvm_model.specs.declared.event.Event.{Event}
@@ -97,8 +98,8 @@ pub record Unwinds (w : World) (t : Listing) (s : State) : Type 0 where
   pub after : State
   pub next : move w t s ≡ Some (record { after = after; changes = Unwound ∷ [] })
 
--- The pause of a state's moves, n changes behind the begin of the step: the changes up to there are silent but for the last, what is left is the
--- moves of its state, and where nothing is told none is left.
+-- The pause of a state's moves, n changes behind the begin of the step: the changes up to there are silent but for the
+-- last, what is left is the moves of its state, and where nothing is told none is left.
 pub record IsPaused (w : World) (t : Listing) (v : ℕ → Mark) (n : ℕ) (s : State) (p : Pause) : Type 0 where
   pub changes : List Change
   pub part : IsPart w t Moves s changes Moves p.state

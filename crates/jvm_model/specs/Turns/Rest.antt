@@ -1,5 +1,5 @@
--- What is left of a step where it stops on the way. Its classes were loaded and the instruction is still to be attempted; or it was attempted,
--- and moves are left. The listing may be another one from there on.
+-- What is left of a step where it stops on the way. Its classes were loaded and the instruction is still to be
+-- attempted; or it was attempted, and moves are left. The listing may be another one from there on.
 use Rattle.std.specs.Prelude.{◌≡◌, ℕ, List, [], ◌∷◌, ◌++◌, Option, Some, None}
 use Rattle.jvm_model.specs.Basis.Data.{Frame, Entry, Active, Ending, State, Change, Loads, Turn, Instruction, Listing, World}
 use Rattle.jvm_model.specs.Instructions.Does.{loads}

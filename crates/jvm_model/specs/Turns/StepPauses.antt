@@ -1,4 +1,5 @@
--- Where a step stops on its way that begins with an attempt: before a return of which a probe tells, behind an invocation, or on the way of the moves.
+-- Where a step stops on its way that begins with an attempt: before a return of which a probe tells, behind an
+-- invocation, or on the way of the moves.
 use Rattle.std.specs.Prelude.{◌≡◌, ℕ, Bool, true, false, not, List, [], ◌∷◌, ◌++◌, Option, Some, None, ◌==◌, ◌&&◌, if◌then◌else◌}
 use Rattle.std.specs.Option.{option_map_or}
 use Rattle.jvm_model.specs.declared.event.EventKind.TheVariants as kind
@@ -36,7 +37,8 @@ is_nothing Nothing = true
 is_nothing (Ends k) = false
 is_nothing Begins = false
 
--- Where the class that it had to wait for is ready, and nothing has begun or ended, it is attempted again, by the frame that is current then.
+-- Where the class that it had to wait for is ready, and nothing has begun or ended, it is attempted again, by the frame
+-- that is current then.
 abbrev pub again_pause : World → Listing → (ℕ → Mark) → ℕ → List Held → Instruction → State → Frame → Option ℕ → Pause → Pause
 again_pause w t v n live i s f None p = p
 again_pause w t v n live i s f (Some c) p =

@@ -1,4 +1,5 @@
--- What the changes of a step tell, by the versions that the live activations run: each with its method and the mark of its version.
+-- What the changes of a step tell, by the versions that the live activations run: each with its method and the mark of
+-- its version.
 use Rattle.std.specs.Prelude.{ℕ, List, [], ◌∷◌, ◌++◌, map}
 use Rattle.std.specs.Option.{option_map_or}
 use Rattle.std.specs.Prelude.{slice_get}

@@ -5,8 +5,8 @@ use jf_bytes::NoMemory;
 use std::alloc::Global;
 use std::test::Fail;
 
-/// A class by its name, the descriptor of its static field x, and the name, the descriptor and the code of its public static
-/// method. Of its constants 11 is the class `[F`, 12 a float, 13 a double, and 17 a field of kind F.
+/// A class by its name, the descriptor of its static field x, and the name, the descriptor and the code of its public
+/// static method. Of its constants 11 is the class `[F`, 12 a float, 13 a double, and 17 a field of kind F.
 type Parts = (
     &'static str,
     &'static str,

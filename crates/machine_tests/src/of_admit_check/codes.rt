@@ -10,20 +10,21 @@ use std::test::Fail;
 const B: &[u8] =
     b"\xCA\xFE\xBA\xBE\0\0\0\x31\0\x05\x01\0\x01B\x07\0\x01\x01\0\x10java/lang/Object\x07\0\x03\0\x21\0\x02\0\x04\0\0\0\0\0\0\0\0";
 
-/// The class C up to entry 15 of its pool, the name of the class of int arrays of 255 dimensions. Before it stand C, the class
-/// C, `[I` and its class, `[V` and its class, `<init>`, `()V`, both as 9, the method 10 of them in C, `<clinit>`, it and `()V` as 12,
-/// the method 13 of them in C, and the field 14 of 9 in C.
+/// The class C up to entry 15 of its pool, the name of the class of int arrays of 255 dimensions. Before it stand C,
+/// the class C, `[I` and its class, `[V` and its class, `<init>`, `()V`, both as 9, the method 10 of them in C,
+/// `<clinit>`, it and `()V` as 12, the method 13 of them in C, and the field 14 of 9 in C.
 const TO_DEEP: &[u8] =
     b"\xCA\xFE\xBA\xBE\0\0\0\x31\0\x18\x01\0\x01C\x07\0\x01\x01\0\x02[I\x07\0\x03\x01\0\x02[V\x07\0\x05\x01\0\x06<init>\x01\0\x03()V\x0C\0\x07\0\x08\x0A\0\x02\0\x09\x01\0\x08<clinit>\x0C\0\x0B\0\x08\x0A\0\x02\0\x0C\x09\0\x02\0\x09\x01\x01\0";
 
 const DEEP: [u8; 255] = [b'['; 255];
 
-/// Up to the Code of the third method f: the class 16 of entry 15, the int 17, Object and its class, `Code`, and the names f, g
-/// and h; then the methods g and h, which return.
+/// Up to the Code of the third method f: the class 16 of entry 15, the int 17, Object and its class, `Code`, and the
+/// names f, g and h; then the methods g and h, which return.
 const TO_CODE: &[u8] =
     b"I\x07\0\x0F\x03\0\0\0\x07\x01\0\x10java/lang/Object\x07\0\x12\x01\0\x04Code\x01\0\x01f\x01\0\x01g\x01\0\x01h\0\x21\0\x02\0\x13\0\0\0\0\0\x03\0\x09\0\x16\0\x08\0\x01\0\x14\0\0\0\x0D\0\0\0\0\0\0\0\x01\xB1\0\0\0\0\0\x09\0\x17\0\x08\0\x01\0\x14\0\0\0\x0D\0\0\0\0\0\0\0\x01\xB1\0\0\0\0\0\x09\0\x15\0\x08\0\x01\0\x14\0\0\0";
 
-/// Puts what stands behind it: the length of the Code, its limits, a code of at most 99 bytes, and at most nine handlers.
+/// Puts what stands behind it: the length of the Code, its limits, a code of at most 99 bytes, and at most nine
+/// handlers.
 fn put_code(bytes: &mut Vec<u8>, code: &[u8], handlers: &[u8]) -> Result<(), NoMemory> {
     let len = (code.len() % 100) as u8;
     let count = (handlers.len() / 8 % 10) as u8;
@@ -142,8 +143,8 @@ fn tells_operands(rt: HostRuntime) -> Result<(), Fail> {
     Ok(())
 }
 
-/// Codes without a fault: among them a constant, a loop, invokespecial of <init>, an array of as many dimensions as its class
-/// has, and ret behind wide.
+/// Codes without a fault: among them a constant, a loop, invokespecial of <init>, an array of as many dimensions as its
+/// class has, and ret behind wide.
 const RIGHT: [&'static [u8]; 7] = [
     &[0xB1],
     &[0x12, 17, 0xB1],

@@ -5,8 +5,8 @@ use jf_bytes::NoMemory;
 use std::alloc::Global;
 use std::test::Fail;
 
-/// The first entries of the pool: A, the class A, Object and its class, `main` and its descriptor, `Code`, and the names of the four
-/// tables as 8 to 11.
+/// The first entries of the pool: A, the class A, Object and its class, `main` and its descriptor, `Code`, and the
+/// names of the four tables as 8 to 11.
 const ENTRIES: &[u8] =
     b"\x01\0\x01A\x07\0\x01\x01\0\x10java/lang/Object\x07\0\x03\x01\0\x04main\x01\0\x16([Ljava/lang/String;)V\x01\0\x04Code\x01\0\x0FLineNumberTable\x01\0\x12LocalVariableTable\x01\0\x16LocalVariableTypeTable\x01\0\x0DStackMapTable";
 
@@ -21,8 +21,8 @@ const VARIABLE_TYPES: u8 = 10;
 
 const FRAMES: u8 = 11;
 
-/// How many entries of the pool stand behind those, its max_stack, how many nop stand in front of its code, its code, and a
-/// table by the index of its name.
+/// How many entries of the pool stand behind those, its max_stack, how many nop stand in front of its code, its code,
+/// and a table by the index of its name.
 #[derive(Clone, Copy)]
 struct Parts {
     major: u8,

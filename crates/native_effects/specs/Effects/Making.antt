@@ -109,7 +109,8 @@ heap_with_resize object size h = heap_with_replace object (units_resized size (t
 
 -- ---- what is made once
 
--- where memory was enough, the answer is that the heap is full exactly where there is none yet and one of this cost passes the limit
+-- where memory was enough, the answer is that the heap is full exactly where there is none yet and one of this cost
+-- passes the limit
 abbrev pub IsFullFor : Result ℕ HeapError → Option ℕ → ℕ → HeapView → Type 0
 IsFullFor result found asked h = result ≢ Err NoMemory → IsFullExactly result ((found ≡ None) × ExceedsLimit asked h)
 

@@ -9,7 +9,8 @@ use Rattle.native_effects.specs.Inputs.MadeViews.{MadeView}
 use Rattle.native_effects.specs.Effects.Ports.{answer_of_read, after_read, with_output}
 use Rattle.native_effects.specs.Effects.Making.{answer_of_text, heap_with_text, answer_of_array, heap_with_array, answer_of_instance, heap_with_instance, answer_of_append, heap_with_append, answer_of_replace, heap_with_replace, answer_of_unit, heap_with_unit, answer_of_resize, heap_with_resize, answer_of_intern, heap_with_interned, with_values, with_fields, answer_of_class, heap_after_class, made_after_class, answer_of_box, heap_after_box, made_after_box}
 
--- the heap, what was made once, the input, how many of its bytes were read, and the bytes that were written since the call began
+-- the heap, what was made once, the input, how many of its bytes were read, and the bytes that were written since the
+-- call began
 pub record World : Type 0 where
   pub heap : HeapView
   pub made : MadeView

@@ -1,5 +1,5 @@
--- The arguments of a native method, the receiver first where there is one. What is missing or of another sort counts as 0; a rule
--- looks at arguments that fit alone.
+-- The arguments of a native method, the receiver first where there is one. What is missing or of another sort counts as
+-- 0; a rule looks at arguments that fit alone.
 use Rattle.std.specs.Prelude.{ℕ, ◌%◌, ◌==◌, ℤ, pos, Bool, List, slice_get}
 use Rattle.std.specs.Option.{option_map_or}
 use Rattle.std.specs.Int.{w32, cast_unsigned}

@@ -16,8 +16,8 @@ is_among above zero lower upper = false
 is_among above (suc n) lower upper =
     if lower == upper then true else option_map_or (λ k. is_among above n k upper) (above lower) false
 
--- Whether a class is another one or extends it, which a class does that has its fields. An interface's superclass does not count.
--- The numbers of classes are below 2 ^ 24, so no class has more superclasses.
+-- Whether a class is another one or extends it, which a class does that has its fields. An interface's superclass does
+-- not count. The numbers of classes are below 2 ^ 24, so no class has more superclasses.
 abbrev pub extends : KindsView → ℕ → ℕ → Bool
 extends kinds lower upper = nat_lt lower first_array_kind && is_among kinds.above 16777216 lower upper
 

@@ -1,4 +1,5 @@
--- The numbers of the built-in classes that rules speak of: their places in the list of built-in classes, and their kinds.
+-- The numbers of the built-in classes that rules speak of: their places in the list of built-in classes, and their
+-- kinds.
 use Rattle.std.specs.Prelude.{ℕ}
 
 -- ---- what is thrown, by its place

@@ -11,7 +11,8 @@ use heap_objects::{Datum, Heap, HeapError};
 use std::alloc::Global;
 use std::marker::Model;
 
-/// The Class object of each kind that has one, and the objects that valueOf gives for small values. A clause sees the two lists.
+/// The Class object of each kind that has one, and the objects that valueOf gives for small values. A clause sees the
+/// two lists.
 #[derive(Drop)]
 pub struct Made {
     classes: Vec<ClassObject>,
@@ -110,7 +111,8 @@ impl Made {
         Ok(object)
     }
 
-    /// The one object of a kind for a value, by the value's place, which is made where there is none yet. An Err changes nothing.
+    /// The one object of a kind for a value, by the value's place, which is made where there is none yet. An Err
+    /// changes nothing.
     pub fn box_object(
         &mut self,
         kind: u32,

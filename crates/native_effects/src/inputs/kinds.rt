@@ -8,8 +8,8 @@ use base_classes::FIRST_ARRAY;
 use heap_objects::Heap;
 use jf_bytes::Text16;
 
-/// The classes of a program, by their kinds: a class's kind is 16 and its place among the built-in classes, or 256 and its place
-/// among the program's.
+/// The classes of a program, by their kinds: a class's kind is 16 and its place among the built-in classes, or 256 and
+/// its place among the program's.
 pub trait Kinds {
     /// What it tells.
     ghost seen: { Self → KindsView };
@@ -22,7 +22,8 @@ pub trait Kinds {
     fn above(&self, kind: u32) -> Option<u32>
         ensures { result ≡ (seen self.now).above kind };
 
-    /// Whether what has one kind also has another (JVM Specification 4.10.1). False where a kind is of nothing that is loaded.
+    /// Whether what has one kind also has another (JVM Specification 4.10.1). False where a kind is of nothing that is
+    /// loaded.
     fn subtype(&self, lower: u32, upper: u32) -> bool
         ensures { result ≡ (seen self.now).subtype lower upper };
 }

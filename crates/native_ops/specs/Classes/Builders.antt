@@ -1,5 +1,5 @@
--- java/lang/StringBuilder and java/lang/StringBuffer: what their native methods do, each by its arguments and the heap. The receiver
--- is the argument at place 0.
+-- java/lang/StringBuilder and java/lang/StringBuffer: what their native methods do, each by its arguments and the heap.
+-- The receiver is the argument at place 0.
 use Rattle.std.specs.Prelude.{ℕ, ◌+◌, ◌++◌, ℤ, pos, negsuc, List, [], Some, None, length, take, drop, if◌then◌else◌}
 use Rattle.std.specs.Option.{option_map_or}
 use Rattle.heap_objects.specs.declared.datum.Datum.{Datum}

@@ -1,5 +1,5 @@
--- java/lang/Character, java/lang/Boolean and java/lang/Math: what their native methods do. The receiver of those that are not static
--- is the argument at place 0. The three tests of chars are of ASCII only.
+-- java/lang/Character, java/lang/Boolean and java/lang/Math: what their native methods do. The receiver of those that
+-- are not static is the argument at place 0. The three tests of chars are of ASCII only.
 use Rattle.std.specs.Prelude.{ℕ, ℤ, pos, Bool, List, [], ◌∷◌, nat_le, int_lt, not, if◌then◌else◌, ◌&&◌, ◌||◌}
 use Rattle.std.specs.Int.{w32, w64, int_max, int_min}
 use Rattle.std.specs.Ordering.{int_eq}

@@ -1,4 +1,5 @@
--- java/lang/Enum: what its native methods do. The receiver is the argument at place 0; its fields are its name and its ordinal.
+-- java/lang/Enum: what its native methods do. The receiver is the argument at place 0; its fields are its name and its
+-- ordinal.
 use Rattle.std.specs.Prelude.{ℕ, ◌==◌, List, if◌then◌else◌}
 use Rattle.std.specs.Option.{option_map_or}
 use Rattle.std.specs.Int.{w32}
@@ -16,7 +17,8 @@ use Rattle.native_effects.specs.Inputs.Objects.{kind_or_none, int_field, referen
 use Rattle.native_effects.specs.Inputs.KindsViews.{KindsView, is_instance}
 use Rattle.native_effects.specs.Effects.Answers.{gives_int, gives_boolean, gives_reference, throws, unless_null}
 
--- The class that declares a constant, by the kind of its class: that class where it extends java/lang/Enum directly, else its superclass.
+-- The class that declares a constant, by the kind of its class: that class where it extends java/lang/Enum directly,
+-- else its superclass.
 abbrev pub declaring_class : KindsView → ℕ → ℕ
 declaring_class kinds kind = option_map_or (λ above. if above == enum_kind then kind else above) (kinds.above kind) 0
 

@@ -1,5 +1,5 @@
--- java/lang/Object and java/lang/Class: what their native methods do, and the names of classes and arrays. The receiver is the
--- argument at place 0.
+-- java/lang/Object and java/lang/Class: what their native methods do, and the names of classes and arrays. The receiver
+-- is the argument at place 0.
 use Rattle.std.specs.Prelude.{ℕ, ◌-◌, ◌/◌, ◌%◌, ◌==◌, pos, false, List, [], ◌∷◌, ◌++◌, map, replicate, unwrap_or, slice_get, nat_lt, codes, if◌then◌else◌}
 use Rattle.std.specs.Fmt.{digits}
 use Rattle.heap_objects.specs.declared.datum.Datum.{Datum}

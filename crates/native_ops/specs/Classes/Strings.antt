@@ -1,4 +1,5 @@
--- java/lang/String: what its native methods do, each by its arguments and the heap. The receiver is the argument at place 0.
+-- java/lang/String: what its native methods do, each by its arguments and the heap. The receiver is the argument at
+-- place 0.
 use Rattle.std.specs.Prelude.{ℕ, ◌==◌, ◌++◌, ℤ, pos, negsuc, List, [], Option, None, option_and_then, slice_get, length, map, if◌then◌else◌, ◌&&◌}
 use Rattle.std.specs.Option.{option_map_or}
 use Rattle.std.specs.Str.{bytes_eq}

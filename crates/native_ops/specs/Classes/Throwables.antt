@@ -1,5 +1,5 @@
--- java/lang/Throwable and the classes below it: what their native methods do. The receiver is the argument at place 0; its first fields
--- are its message and its cause. A constructor sets both: what it is not given becomes null.
+-- java/lang/Throwable and the classes below it: what their native methods do. The receiver is the argument at place 0;
+-- its first fields are its message and its cause. A constructor sets both: what it is not given becomes null.
 use Rattle.std.specs.Prelude.{ℕ, List, if◌then◌else◌}
 use Rattle.heap_objects.specs.declared.datum.Datum.{Datum}
 use Rattle.heap_objects.specs.declared.datum.Datum.TheVariants.{Ref}

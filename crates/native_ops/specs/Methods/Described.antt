@@ -1,4 +1,5 @@
--- What a descriptor says of the arguments (JVM Specification 4.3.3), as native methods take them: of the types that they have.
+-- What a descriptor says of the arguments (JVM Specification 4.3.3), as native methods take them: of the types that
+-- they have.
 use Rattle.std.specs.Prelude.{ℕ, ◌==◌, Bool, true, false, not, List, [], ◌∷◌, ◌++◌, filter, drop, bit_and, codes, if◌then◌else◌}
 use Rattle.std.specs.List.{flat_map}
 use Rattle.std.specs.Str.{bytes_eq}

@@ -1,4 +1,5 @@
--- Which method each row is of: its class, its name and its descriptor. The rows are the native methods of the built-in classes.
+-- Which method each row is of: its class, its name and its descriptor. The rows are the native methods of the built-in
+-- classes.
 use Rattle.std.specs.Prelude.{ℕ, ◌-◌, List, [], ◌++◌, slice_get, unwrap_or, codes}
 use Rattle.const_pool.specs.References.{Reference}
 use Rattle.const_pool.specs.BuiltIn.{built_in_names}

@@ -1,4 +1,5 @@
--- The native methods by number: what each does, and what it takes. The order is that of the classes and of each class's methods.
+-- The native methods by number: what each does, and what it takes. The order is that of the classes and of each class's
+-- methods.
 use Rattle.std.specs.Prelude.{ℕ, zero, suc, ◌+◌, List, [], ◌∷◌, ◌++◌}
 use Rattle.native_ops.specs.declared.methods.rows.Row.{Row}
 use Rattle.native_ops.specs.declared.methods.method.Method.{Method}

@@ -1,5 +1,6 @@
--- What arguments a native method takes. Arguments fit where none is missing, of another sort, or not of the parameter's class. A
--- method with fields of its class looks at them in its receiver alone, so the receiver's class extends the class.
+-- What arguments a native method takes. Arguments fit where none is missing, of another sort, or not of the parameter's
+-- class. A method with fields of its class looks at them in its receiver alone, so the receiver's class extends the
+-- class.
 use Rattle.std.specs.Prelude.{ℕ, ◌==◌, Bool, true, false, List, [], ◌∷◌, drop, slice_get, is_some, ◌&&◌, ◌||◌}
 use Rattle.std.specs.Option.{option_map_or}
 use Rattle.heap_objects.specs.declared.datum.Datum.{Datum}

@@ -1,4 +1,5 @@
--- What is made of loaded classes by a list that has all of them that are asked for, and others only that are not loaded.
+-- What is made of loaded classes by a list that has all of them that are asked for, and others only that are not
+-- loaded.
 use Rattle.std.proofs.Common.{◌≡◌, ℕ, Bool, true, false, List, ap, sym, refl, ◌∙◌}
 use Rattle.std.specs.Prelude.{filter, filter_map, flat_map, Option, None, if◌then◌else◌}
 use Rattle.std.specs.Option.{option_to_list}

@@ -1,4 +1,5 @@
--- All of it together: the original code of a program whose codes are closed, a version of a method more, and a step: the machine stands for the run.
+-- All of it together: the original code of a program whose codes are closed, a version of a method more, and a step:
+-- the machine stands for the run.
 use Rattle.std.proofs.Common.{◌≡◌, ◌≤◌, ◌<◌, ℕ, List, length, refl}
 use Rattle.std.specs.List.{AllByRecursion}
 use Rattle.jvm_model.specs.declared.program.Program.{Program}

@@ -1,5 +1,6 @@
--- Worked steps over a table of versions: a method has its original code as version 0, and rewritten code as version 1, in which it begins. Frames of both stand on one
--- another; return addresses are homes; a return stands behind its probe; a handler ends where the code does; and a switch has other zeros behind its opcode.
+-- Worked steps over a table of versions: a method has its original code as version 0, and rewritten code as version 1,
+-- in which it begins. Frames of both stand on one another; return addresses are homes; a return stands behind its
+-- probe; a handler ends where the code does; and a switch has other zeros behind its opcode.
 use Rattle.std.specs.Prelude.{◌≡◌, ℕ, true, List, [], ◌∷◌, ◌++◌, length, Option, Some, None, refl, codes, pos}
 use Rattle.std.specs.Int.{int_wrap}
 use Rattle.heap_objects.specs.declared.Value.{Value}
@@ -116,7 +117,8 @@ ret-original : behind (frame 0 5 (Some (Addr 3) ∷ []) [] ∷ frame 1 6 (None �
 unfolding instruction_at read_instruction behind_opcode_at operand_at value_at index_at signed_at number_at branch_at target_at local_at table_at run_at high_at many_at row_of groups family_of rows int_wrap
 ret-original = refl
 
--- the handler goes to the return by its home, and ends where the code does; the one that takes what leaves the code is none of the version's
+-- the handler goes to the return by its home, and ends where the code does; the one that takes what leaves the code is
+-- none of the version's
 handlers-homed : (listing_of (both calls_back calls_back_image calls_back_homes)).handlers 1 ≡ record { start = 16; finish = 19; target = 9; catches = None } ∷ []
 unfolding instruction_at read_instruction behind_opcode_at operand_at value_at index_at signed_at number_at branch_at target_at local_at table_at run_at high_at many_at row_of groups family_of rows int_wrap
 handlers-homed = refl

@@ -1,4 +1,5 @@
--- An action behind a step, or before the start, changes what is kept as its own point says, and nothing of what was before.
+-- An action behind a step, or before the start, changes what is kept as its own point says, and nothing of what was
+-- before.
 use Rattle.std.proofs.Common.{◌≡◌, ℕ, zero, suc, ◌+◌, ◌<◌, ◌≤◌, Bool, true, false, ◌==◌, List, [], ◌∷◌, ◌++◌, map, Option, Some, None, slice_get, if◌then◌else◌, refl, sym, ap, ap₂, subst, ◌∙◌, arith, add-one}
 use Rattle.std.specs.List.{AllByRecursion}
 use Rattle.std.specs.Option.{option_map_or}

@@ -1,4 +1,5 @@
--- The marks that a session has in force where a step goes on are those that the rule gives at the last point before the step's begin.
+-- The marks that a session has in force where a step goes on are those that the rule gives at the last point before the
+-- step's begin.
 use Rattle.std.proofs.Common.{◌≡◌, ℕ, zero, suc, ◌+◌, Bool, true, false, not, ◌&&◌, List, [], ◌∷◌, ◌++◌, map, Option, Some, None, slice_get, if◌then◌else◌, refl, sym, ap, ◌∙◌, arith, zero-add}
 use Rattle.std.specs.Prelude.{fold}
 use Rattle.std.specs.List.{enumerate_from}

@@ -1,4 +1,5 @@
--- The swaps that a session keeps are those of the points: how each point, and each change that is none, goes into both lists.
+-- The swaps that a session keeps are those of the points: how each point, and each change that is none, goes into both
+-- lists.
 use Rattle.std.proofs.Common.{◌≡◌, ℕ, Bool, true, false, List, [], ◌∷◌, ◌++◌, map, if◌then◌else◌, refl, sym, ap, ap₂, subst, ◌∙◌, append_assoc}
 use Rattle.std.specs.Prelude.{fold, filter}
 use Rattle.std.proofs.lemmas.List.{append-nil}

@@ -1,4 +1,5 @@
--- what is left of the classes decides, and where the search knows that nothing passes the method on, nothing does to these
+-- what is left of the classes decides, and where the search knows that nothing passes the method on, nothing does to
+-- these
 use Rattle.std.proofs.Common.{◌≡◌, true, false, drop}
 use Rattle.jvm_model.specs.Classes.Lookup.{first_in}
 use Rattle.jvm_model.specs.Classes.Selection.{candidate}

@@ -6,7 +6,8 @@ use Rattle.member_selection.specs.Arrays.{AreUsable}
 use Rattle.member_selection.specs.Objects.{AreLoaded}
 use Rattle.symbolic_references.proofs.runtime.multi_arrays.+make_all.Given as goal
 
--- the parts that are left lead to what all of them do, and there is room for them; the classes of all objects stay loaded
+-- the parts that are left lead to what all of them do, and there is room for them; the classes of all objects stay
+-- loaded
 abbrev pub invariant-loop-at : goal.invariant-loop-at
 invariant-loop-at l =
     (with_parts (with_arrays (l.fn.kind - 16777216) l.rest) l.made.array l.at (l.count - l.at) l.heap
