@@ -8,7 +8,7 @@ use Rattle.code_model.specs.Layout.{home_of}
 use Rattle.stackmap_shift.specs.declared.error.FrameError.{FrameError}
 use Rattle.stackmap_shift.specs.declared.debug.Line.{Line}
 use Rattle.stackmap_shift.specs.declared.debug.Variable.{Variable}
-use Rattle.stackmap_shift.specs.Tables.{Read, number_at, counted_at, whole_of}
+use Rattle.stackmap_shift.specs.Tables.{◌>>=◌, Read, number_at, counted_at, whole_of}
 use Rattle.stackmap_shift.specs.Spelling.{u2}
 
 -- ---- rows

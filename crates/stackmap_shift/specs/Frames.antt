@@ -10,7 +10,7 @@ use Rattle.stackmap_shift.specs.declared.frames.VType.TheVariants.{Top, Integer,
 use Rattle.stackmap_shift.specs.declared.frames.FrameKind.{FrameKind}
 use Rattle.stackmap_shift.specs.declared.frames.FrameKind.TheVariants.{Same, OneItem, Chop, Append, Full}
 use Rattle.stackmap_shift.specs.declared.frames.Frame.{Frame}
-use Rattle.stackmap_shift.specs.Tables.{Read, place, number_at, many_at, counted_at, whole_of}
+use Rattle.stackmap_shift.specs.Tables.{◌>>=◌, Read, place, number_at, many_at, counted_at, whole_of}
 
 -- ---- verification types
 
