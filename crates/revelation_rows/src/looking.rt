@@ -6,7 +6,7 @@ ghost use Rattle.jvm_model.specs.Profiling.Points.{has_class};
 ghost use Rattle.jvm_model.specs.Profiling.Revealed.{marks_of};
 ghost use Rattle.class_linker.specs.Linkers.{IsLoaded};
 ghost use Rattle.program_fit.specs.Runnable.{IsAdmitted};
-ghost use Rattle.call_revelation.specs.Reveals.{IsRevelation, now_of};
+ghost use Rattle.call_revelation.specs.Reveals.{now_of};
 ghost use Rattle.revelation_rows.specs.Rows.{AreTargets};
 ghost use Rattle.revelation_rows.specs.Scenes.{IsAnswered, IsFollowed, IsReady};
 
@@ -21,7 +21,7 @@ use std::alloc::Global;
 
 /// The marks of all methods, by their numbers.
 fn marks(alloc: Global, linker: &Linker, reveal: &Reveal) -> Result<Seq<Mark>, NoMemory>
-    requires { IsRevelation linker.now.program reveal.now }
+    requires { IsReady linker.now reveal.now }
     ensures { IfOk result (λ ms. ms ≡ marks_of linker.now.program (now_of reveal.now)) }
 {
     let program = linker.program();

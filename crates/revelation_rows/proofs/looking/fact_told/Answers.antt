@@ -7,7 +7,7 @@ use Rattle.revelation_rows.proofs.ToldLemmas.{told-begins, told-changed, told-ma
 use Rattle.revelation_rows.proofs.looking.fact_told.Goals as goal
 
 pub marks-requires : goal.marks-requires
-marks-requires c = c.in_ok-follow.ensures.ready.along.revelation
+marks-requires c = c.in_ok-follow.ensures.ready
 
 pub returns-in_ok-marks-in-Marks-clause-told : goal.returns-in_ok-marks-in-Marks-clause-told
 returns-in_ok-marks-in-Marks-clause-told c =

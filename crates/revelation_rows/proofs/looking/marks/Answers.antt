@@ -17,7 +17,7 @@ loop-method-preserved c =
     let same = c.program-program.ensures in
     marks-next p now c.loop-method.marks c.push.new.self c.mark.result c.as_slice-places.result.now c.loop-method.method (marks_of p now) c.loop-method-test.true
     c.in_ok-push.ensures.items
-    (c.mark.ensures (subst (λ (p : Program). IsRevelation p c.args.reveal.now) (sym same) c.requires) ∙ ap (λ (p : Program). mark_of p now c.loop-method.method) same)
+    (c.mark.ensures (subst (λ (p : Program). IsRevelation p c.args.reveal.now) (sym same) c.requires.along.revelation) ∙ ap (λ (p : Program). mark_of p now c.loop-method.method) same)
     c.loop-method.invariant
 
 pub returns : goal.returns
