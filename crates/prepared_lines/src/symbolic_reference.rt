@@ -21,6 +21,7 @@ use class_index::meaning_of;
 use const_pool::{ClassFile, Kind, MemberRef, Pool};
 use jf_bytes::{NoMemory, Seq, Text16};
 use jvm_model::{MemberName, MethodName, Operation, SymbolicReference};
+use op_table::{GETSTATIC, INVOKESPECIAL, INVOKESTATIC, INVOKEVIRTUAL, NEW};
 use std::alloc::Global;
 
 // ---- names
@@ -145,14 +146,14 @@ pub fn symbolic_reference_of(
 {
     let pool = &class.pool;
     match op {
-        178 => Ok(field_in(alloc, pool, index)?.map(SymbolicReference::Getstatic)),
+        GETSTATIC => Ok(field_in(alloc, pool, index)?.map(SymbolicReference::Getstatic)),
         179 => Ok(field_in(alloc, pool, index)?.map(SymbolicReference::Putstatic)),
         180 => Ok(field_in(alloc, pool, index)?.map(SymbolicReference::Getfield)),
         181 => Ok(field_in(alloc, pool, index)?.map(SymbolicReference::Putfield)),
-        182 => Ok(method_in(alloc, pool, index)?.map(SymbolicReference::Invokevirtual)),
-        183 => special_in(alloc, class, index),
-        184 => Ok(method_in(alloc, pool, index)?.map(SymbolicReference::Invokestatic)),
-        187 => Ok(class_in(alloc, pool, index)?.map(SymbolicReference::New)),
+        INVOKEVIRTUAL => Ok(method_in(alloc, pool, index)?.map(SymbolicReference::Invokevirtual)),
+        INVOKESPECIAL => special_in(alloc, class, index),
+        INVOKESTATIC => Ok(method_in(alloc, pool, index)?.map(SymbolicReference::Invokestatic)),
+        NEW => Ok(class_in(alloc, pool, index)?.map(SymbolicReference::New)),
         189 => Ok(class_in(alloc, pool, index)?.map(SymbolicReference::Anewarray)),
         192 => Ok(class_in(alloc, pool, index)?.map(SymbolicReference::Checkcast)),
         193 => Ok(class_in(alloc, pool, index)?.map(SymbolicReference::Instanceof)),
