@@ -52,6 +52,13 @@ pub const NO_SUCH_METHOD_ERROR: u16 = 50;
 
 pub const OUT_OF_MEMORY_ERROR: u16 = 51;
 
+/// The kinds of the built-in classes are counted from here on, in the order of their places; below are those of
+/// primitive types.
+pub const FIRST_CLASS_KIND: u32 = 16;
+
+/// The kinds of a program's own classes are counted from here on.
+pub const FIRST_USER_KIND: u32 = 256;
+
 /// The number from which on kinds are arrays': one dimension in a kind.
 pub const FIRST_ARRAY: u32 = 16_777_216;
 

@@ -9,8 +9,8 @@ ghost use Rattle.jvm_model.specs.Basis.Programs.{class_named};
 ghost use Rattle.jvm_model.specs.Profiling.Revelation.{is_named, symbolic_references_of};
 ghost use Rattle.prepared_code.specs.Prepared.{HasShortCodes};
 ghost use Rattle.possible_callees.specs.Tables.{list_at};
-ghost use Rattle.call_revelation.specs.Books.{HasMore, IsBookOf, code_at, is_noted, symbolic_reference_at};
-ghost use Rattle.call_revelation.specs.Books.{with_noted, with_use, with_uses};
+ghost use Rattle.call_revelation.specs.Books.{HasMore, IsBookOf, code_at, is_call, is_noted};
+ghost use Rattle.call_revelation.specs.Books.{symbolic_reference_at, with_noted, with_use, with_uses};
 
 use crate::uses::Use;
 use class_linker::Linker;
@@ -47,15 +47,22 @@ pub fn names(linker: &Linker, reference: &SymbolicReference, class: u32) -> bool
     }
 }
 
-/// Whether an instruction is noted, where calls alone are: those that select by their receiver's class.
-fn is_noted(calls: bool, reference: &SymbolicReference) -> bool
-    ensures { result ≡ is_noted calls reference.now }
+/// Whether an instruction selects by its receiver's class.
+pub fn is_call(reference: &SymbolicReference) -> bool
+    ensures { result ≡ is_call reference.now }
 {
     match reference {
         SymbolicReference::Invokevirtual(_) => true,
         SymbolicReference::Invokeinterface(_) => true,
-        _ => !calls,
+        _ => false,
     }
+}
+
+/// Whether an instruction is noted, where calls alone are: those that select by their receiver's class.
+fn is_noted(calls: bool, reference: &SymbolicReference) -> bool
+    ensures { result ≡ is_noted calls reference.now }
+{
+    !calls || is_call(reference)
 }
 
 /// Notes an instruction by the class that it names.

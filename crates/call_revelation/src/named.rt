@@ -7,10 +7,10 @@ ghost use Rattle.jvm_model.specs.Classes.Load.{is_among};
 ghost use Rattle.class_index.specs.Orders.{with_class, with_classes};
 ghost use Rattle.possible_callees.specs.Lineages.{IsLineage};
 ghost use Rattle.possible_callees.specs.Tables.{Adds, list_at};
-ghost use Rattle.call_revelation.specs.Books.{IsBookOf, code_at, is_call};
+ghost use Rattle.call_revelation.specs.Books.{IsBookOf, code_at};
 ghost use Rattle.call_revelation.specs.CalledClasses.{AreHanded, HasCalled, called_class, own_of, uppers_of};
 
-use crate::book::{Book, class_of};
+use crate::book::{Book, class_of, is_call};
 use class_index::Order;
 use class_linker::Linker;
 use jf_bytes::{NoMemory, Seq};
@@ -24,17 +24,6 @@ use std::alloc::Global;
 pub struct Named {
     pub classes: Order,
     pub above: Vec<Seq<u32>>,
-}
-
-/// Whether an instruction selects by its receiver's class.
-fn is_call(reference: &SymbolicReference) -> bool
-    ensures { result ≡ is_call reference.now }
-{
-    match reference {
-        SymbolicReference::Invokevirtual(_) => true,
-        SymbolicReference::Invokeinterface(_) => true,
-        _ => false,
-    }
 }
 
 /// The class that an instruction names, where it selects by its receiver's class.

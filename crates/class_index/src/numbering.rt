@@ -8,7 +8,7 @@ ghost use Rattle.jvm_model.specs.Basis.Programs.{name_at};
 ghost use Rattle.jvm_model.specs.Basis.SharedState.{class_of_kind};
 
 use crate::index::Index;
-use base_classes::{BUILT_IN_CLASSES, FIRST_ARRAY};
+use base_classes::{BUILT_IN_CLASSES, FIRST_ARRAY, FIRST_CLASS_KIND, FIRST_USER_KIND};
 use jf_bytes::Text16;
 use jvm_model::Program;
 
@@ -33,9 +33,9 @@ pub fn base_of_class(program: &Program, class: u32) -> u32
 {
     let users = user_count(program);
     if class < users {
-        256 + class
+        FIRST_USER_KIND + class
     } else {
-        16 + (class - users)
+        FIRST_CLASS_KIND + (class - users)
     }
 }
 
@@ -44,13 +44,13 @@ pub fn class_of_base(program: &Program, base: u32) -> Option<u32>
     requires { length program.now.classes < 2 ^ 24 }
     ensures { result ≡ class_of_base program.now base }
 {
-    if base < 16 {
+    if base < FIRST_CLASS_KIND {
         return None;
     }
-    if base < 256 {
-        Some(user_count(program) + (base - 16))
+    if base < FIRST_USER_KIND {
+        Some(user_count(program) + (base - FIRST_CLASS_KIND))
     } else {
-        Some(base - 256)
+        Some(base - FIRST_USER_KIND)
     }
 }
 

@@ -21,6 +21,7 @@ use crate::texts::{dimensions_of, is_class_name, is_field_text, method_kinds};
 use code_model::{Arg, Instr};
 use const_pool::{Const, Kind, MemberRef, Pool};
 use jf_bytes::{NoMemory, Text16};
+use op_table::{ARETURN, INVOKESPECIAL, IRETURN, NEW, RETURN};
 use std::alloc::Global;
 
 /// What an instruction with an index takes from the pool.
@@ -108,7 +109,7 @@ fn is_wide_constant(entry: &Const) -> bool
 fn may_name(op: u8, name: &Text16) -> bool
     ensures { result ≡ may_name op name.now }
 {
-    !name.is_bytes(b"<clinit>") && (op == 183 || !name.is_bytes(b"<init>"))
+    !name.is_bytes(b"<clinit>") && (op == INVOKESPECIAL || !name.is_bytes(b"<init>"))
 }
 
 /// Whether an instruction of this opcode may name the field.
@@ -350,7 +351,7 @@ fn is_reference_kind(given: Option<Kind>) -> bool
 pub fn fits_return(given: Option<Kind>, op: u8) -> bool
     ensures { result ≡ fits_return given op }
 {
-    if op == 172 {
+    if op == IRETURN {
         is_int_kind(given)
     } else if op == 173 {
         is_long_kind(given)
@@ -358,9 +359,9 @@ pub fn fits_return(given: Option<Kind>, op: u8) -> bool
         is_float_kind(given)
     } else if op == 175 {
         is_double_kind(given)
-    } else if op == 176 {
+    } else if op == ARETURN {
         is_reference_kind(given)
-    } else if op == 177 {
+    } else if op == RETURN {
         given.is_none()
     } else {
         true
@@ -384,7 +385,7 @@ pub fn fits_type(pool: &Pool, op: u8, arg: &Arg) -> bool
     match arg {
         Arg::Array(code) => is_among(4, 11, *code),
         Arg::Pool(index) => {
-            if op == 187 {
+            if op == NEW {
                 named_dimensions(pool, *index) == 0
             } else if op == 189 {
                 named_dimensions(pool, *index) != 255

@@ -11,4 +11,4 @@ mod tail;
 pub use class::{Attribute, ClassFile, CodeAttribute, Handler, Member, Raw};
 pub use descriptor::{DescriptorError, Kind, Shape, parse_field, parse_method};
 pub use pool::{Const, MemberRef, Pool, PoolError};
-pub use tail::{Tail, TailError, append_tail, copy_pool};
+pub use tail::{Tail, TailError, append_tail, copy_pool, text_copy};

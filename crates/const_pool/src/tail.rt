@@ -50,7 +50,7 @@ impl From<NoMemory> for TailError {
 }
 
 /// A text of its own with the same units.
-fn text_copy(alloc: Global, text: &Text16) -> Result<Text16, NoMemory>
+pub fn text_copy(alloc: Global, text: &Text16) -> Result<Text16, NoMemory>
     ensures { IfOk result (λ t. t ≡ text.now) }
 {
     Ok(Text16::new(Vec::from_slice(alloc, text.units())?))

@@ -1,9 +1,8 @@
 //! The heap of a run.
 
-ghost use Rattle.std.specs.Prelude.{◌≡◌, ◌<◌, ◌≤◌, ◌+◌, ◌++◌, ◌∷◌, ◌^◌, [], Some, None, IfOk, IfSome};
+ghost use Rattle.std.specs.Prelude.{◌≡◌, ◌<◌, ◌≤◌, ◌+◌, ◌^◌, Some, None, IfOk, IfSome};
 ghost use Rattle.std.specs.Prelude.{length, is_ok, nat_le, if◌then◌else◌};
 ghost use Rattle.std.specs.Option.{option_copied, option_map};
-ghost use Rattle.std.specs.Vec.{vec_len, vec_capacity};
 ghost use Rattle.heap_objects.specs.Kinds.{element_of};
 
 use crate::array::ArrayObject;
@@ -11,7 +10,7 @@ use crate::datum::Datum;
 use crate::element::Element;
 use crate::error::HeapError;
 use crate::interned::Interned;
-use crate::lists::{append_at, item_at, put_at, put_unit_at, replace_at};
+use crate::lists::{append_at, item_at, put_at, put_last, put_unit_at, replace_at};
 use crate::object::Object;
 use jf_bytes::{NoMemory, Seq};
 use std::alloc::Global;
@@ -59,14 +58,6 @@ fn slots_charged(limit: u32, used: u32, asked: usize) -> Option<u32>
         return None;
     }
     Some(used + asked as u32)
-}
-
-/// Puts an object behind the others, where there is room.
-fn put_last(objects: &mut Vec<Object>, object: Object)
-    requires { vec_len objects.old < vec_capacity objects.old }
-    ensures { objects.new.items ≡ objects.old.items ++ object ∷ [] }
-{
-    let _ = objects.push(object);
 }
 
 impl Heap {

@@ -16,6 +16,8 @@ pub use datum::Datum;
 pub use element::{Element, element_of};
 pub use error::HeapError;
 pub use heap::Heap;
+pub use kept::int_of;
+pub use lists::put_last;
 
 /// A value on the operand stack or in a local (JVM Specification 2.6.1, 2.6.2).
 #[derive(Clone, Copy, Debug, PartialEq, Eq)]

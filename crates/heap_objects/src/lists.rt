@@ -1,7 +1,8 @@
-//! Changes of one object of a list, by its place.
+//! Changes of one object of a list, by its place, and a last one.
 
-ghost use Rattle.std.specs.Prelude.{◌≡◌, ◌<◌, ◌≤◌, ◌+◌, false, length, slice_get, is_ok};
+ghost use Rattle.std.specs.Prelude.{◌≡◌, ◌<◌, ◌≤◌, ◌+◌, ◌++◌, ◌∷◌, [], false, length, slice_get, is_ok};
 ghost use Rattle.std.specs.Option.{option_copied, option_map_or};
+ghost use Rattle.std.specs.Vec.{vec_len, vec_capacity};
 ghost use Rattle.heap_objects.specs.Changes.{changed_if};
 ghost use Rattle.heap_objects.specs.Objects.{has_slot, has_unit, total_cost, growth_in};
 ghost use Rattle.heap_objects.specs.Objects.{with_slot_in, with_unit_in, with_units_in, with_more_units_in};
@@ -9,6 +10,14 @@ ghost use Rattle.heap_objects.specs.Objects.{with_slot_in, with_unit_in, with_un
 use crate::datum::Datum;
 use crate::object::Object;
 use jf_bytes::{NoMemory, Seq};
+
+/// Puts an item behind the others, where there is room.
+pub fn put_last<T: Drop>(items: &mut Vec<T>, item: T)
+    requires { vec_len items.old < vec_capacity items.old }
+    ensures { items.new.items ≡ items.old.items ++ item ∷ [] }
+{
+    let _ = items.push(item);
+}
 
 /// The object at a place, where there is one.
 #[inline(always)]

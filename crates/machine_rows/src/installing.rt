@@ -1,11 +1,10 @@
 //! Installs the image of a class, and tries bytes that redefine none.
 
-ghost use Rattle.std.specs.Prelude.{◌≡◌, ◌≢◌, ◌<◌, ◌≤◌, None, Some, Ok, true, false, length};
+ghost use Rattle.std.specs.Prelude.{◌≡◌, ◌≢◌, ◌<◌, None, Some, Ok, true, false, length};
 ghost use Rattle.std.specs.Prelude.{IfNone, IfOk, IfSome};
 ghost use Rattle.jvm_machine.specs.Installs.{with_class};
 ghost use Rattle.std.specs.Option.{option_copied};
 ghost use Rattle.jvm_model.specs.Basis.Programs.{class_at};
-ghost use Rattle.jvm_model.specs.Profiling.Swaps.{first_number};
 ghost use Rattle.machine_rows.specs.declared.line.Line.TheVariants.{Installed, Refused};
 ghost use Rattle.machine_rows.specs.Played.{FitsMarks, IsNotRedefined, IsNotUnfit, IsOtherwise};
 ghost use Rattle.machine_rows.specs.Ready.{IsImageFile, IsReady, IsUnfit};
@@ -14,27 +13,12 @@ use crate::turns::Difference;
 use class_shape::{SwapError, read_swap};
 use class_writer::write_class;
 use const_pool::ClassFile;
-use hotswap::redefine;
+use hotswap::{first_number, redefine};
 use inject_events::{Image, instrument, marked_have_code};
 use jf_bytes::NoMemory;
 use jvm_machine::Vm;
-use jvm_model::{Mark, Program};
+use jvm_model::Mark;
 use std::alloc::Global;
-
-/// The number of a class's first method with Code.
-fn first_number(program: &Program, class: u32) -> u32
-    requires { length program.now.methods ≤ 32768 }
-    ensures number { result ≡ first_number program.now class }
-    ensures few { result ≤ 2147418112 }
-{
-    let mut first = 0u32;
-    for place in program.methods.as_slice() {
-        if place.class < class {
-            first += 1;
-        }
-    }
-    first
-}
 
 /// The class at this position of the machine's program.
 fn class_at(vm: &Vm, class: u32) -> Option<&ClassFile>

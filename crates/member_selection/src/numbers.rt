@@ -7,9 +7,9 @@ ghost use Rattle.jvm_model.specs.Basis.Programs.{methods_numbered};
 ghost use Rattle.member_selection.specs.Numbers.{AreNumbers, all_coded, coded_count};
 ghost use Rattle.member_selection.specs.Numbers.{number_in, row_from, rows_from};
 
-use const_pool::{Attribute, ClassFile, Member};
+use const_pool::{ClassFile, Member};
 use jf_bytes::{NoMemory, Seq};
-use jvm_model::Program;
+use jvm_model::{Program, code_of};
 use std::alloc::Global;
 use std::marker::Model;
 
@@ -33,12 +33,7 @@ impl Model for MethodNumbers {
 fn has_code(method: &Member) -> bool
     ensures { result ≡ is_some (code_of method.now) }
 {
-    for attribute in method.attributes.as_slice() {
-        if let Attribute::Code(..) = attribute {
-            return true;
-        }
-    }
-    false
+    code_of(method).is_some()
 }
 
 /// How many methods have Code.

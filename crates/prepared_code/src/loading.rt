@@ -10,10 +10,10 @@ ghost use Rattle.prepared_code.specs.Prepared.{built_in_then, load_built_in, mai
 use base_classes::is_built_in;
 use class_index::Index;
 use class_linker::{Linker, Loaded};
-use const_pool::ClassFile;
+use const_pool::{ClassFile, text_copy};
 use jf_bytes::{NoMemory, Text16};
 use jvm_model::Program;
-use prepared_lines::{copy_of, main_class};
+use prepared_lines::main_class;
 use std::alloc::Global;
 
 /// Whether a class has the name of a built-in one.
@@ -31,7 +31,7 @@ fn name_at(alloc: Global, index: &Index, class: u32) -> Result<Text16, NoMemory>
     ensures { IfOk result (λ name. name ≡ unwrap_or (name_at index.now class) []) }
 {
     match index.name_at(class) {
-        Some(name) => copy_of(alloc, name),
+        Some(name) => text_copy(alloc, name),
         None => Ok(Text16::new(Vec::new(alloc))),
     }
 }

@@ -18,4 +18,4 @@ pub use line::{Line, LocalAction};
 pub use lookup::{initializer_of, main_class};
 pub use probes::entry_mark;
 pub use resolving::line_of;
-pub use symbolic_reference::{class_in, copy_of};
+pub use symbolic_reference::class_in;

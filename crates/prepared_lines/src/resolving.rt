@@ -27,6 +27,7 @@ use heap_objects::{Datum, Value};
 use jf_bytes::NoMemory;
 use jvm_basic::{Hot, hot_by, value_of};
 use jvm_model::{Family, Operation, family_of};
+use op_table::ATHROW;
 use std::alloc::Global;
 
 /// The number that an entry of the pool is.
@@ -189,7 +190,7 @@ fn object_operation(op: u8) -> Option<Operation<LocalAction>>
         85 => Some(Operation::StoreElement(Kind::Char)),
         86 => Some(Operation::StoreElement(Kind::Short)),
         190 => Some(Operation::Arraylength),
-        191 => Some(Operation::Athrow),
+        ATHROW => Some(Operation::Athrow),
         194 | 195 => Some(Operation::Monitor),
         _ => None,
     }

@@ -18,27 +18,21 @@ use crate::descriptor::shape_of;
 use crate::line::LocalAction;
 use crate::members::{field_at, interface_method_at, method_at};
 use class_index::meaning_of;
-use const_pool::{ClassFile, Kind, MemberRef, Pool};
+use const_pool::{ClassFile, Kind, MemberRef, Pool, text_copy};
 use jf_bytes::{NoMemory, Seq, Text16};
 use jvm_model::{MemberName, MethodName, Operation, SymbolicReference};
+use op_table::{GETSTATIC, INVOKESPECIAL, INVOKESTATIC, INVOKEVIRTUAL, NEW};
 use std::alloc::Global;
 
 // ---- names
-
-/// The same text.
-pub fn copy_of(alloc: Global, text: &Text16) -> Result<Text16, NoMemory>
-    ensures { IfOk result (λ copy. copy ≡ text.now) }
-{
-    Ok(Text16::new(Vec::from_slice(alloc, text.units())?))
-}
 
 /// A member with its names.
 fn member_as(alloc: Global, member: &MemberRef<'_>) -> Result<MemberName, NoMemory>
     ensures { IfOk result (λ name. name ≡ reference_view member.now) }
 {
-    let class = copy_of(alloc, member.class)?;
-    let name = copy_of(alloc, member.name)?;
-    Ok(MemberName::new(class, name, copy_of(alloc, member.descriptor)?))
+    let class = text_copy(alloc, member.class)?;
+    let name = text_copy(alloc, member.name)?;
+    Ok(MemberName::new(class, name, text_copy(alloc, member.descriptor)?))
 }
 
 /// The kinds of the parameters that a method's descriptor tells.
@@ -98,7 +92,7 @@ pub fn class_in(alloc: Global, pool: &Pool, index: u16) -> Result<Option<Text16>
     ensures { IfOk result (λ name. name ≡ named_class pool.now index) }
 {
     match pool.class_name(index) {
-        Ok(name) => Ok(Some(copy_of(alloc, name)?)),
+        Ok(name) => Ok(Some(text_copy(alloc, name)?)),
         Err(_) => Ok(None),
     }
 }
@@ -108,7 +102,7 @@ pub fn text_in(alloc: Global, pool: &Pool, index: u16) -> Result<Option<Text16>,
     ensures { IfOk result (λ text. text ≡ named_text pool.now index) }
 {
     match pool.text(index) {
-        Ok(text) => Ok(Some(copy_of(alloc, text)?)),
+        Ok(text) => Ok(Some(text_copy(alloc, text)?)),
         Err(_) => Ok(None),
     }
 }
@@ -145,14 +139,14 @@ pub fn symbolic_reference_of(
 {
     let pool = &class.pool;
     match op {
-        178 => Ok(field_in(alloc, pool, index)?.map(SymbolicReference::Getstatic)),
+        GETSTATIC => Ok(field_in(alloc, pool, index)?.map(SymbolicReference::Getstatic)),
         179 => Ok(field_in(alloc, pool, index)?.map(SymbolicReference::Putstatic)),
         180 => Ok(field_in(alloc, pool, index)?.map(SymbolicReference::Getfield)),
         181 => Ok(field_in(alloc, pool, index)?.map(SymbolicReference::Putfield)),
-        182 => Ok(method_in(alloc, pool, index)?.map(SymbolicReference::Invokevirtual)),
-        183 => special_in(alloc, class, index),
-        184 => Ok(method_in(alloc, pool, index)?.map(SymbolicReference::Invokestatic)),
-        187 => Ok(class_in(alloc, pool, index)?.map(SymbolicReference::New)),
+        INVOKEVIRTUAL => Ok(method_in(alloc, pool, index)?.map(SymbolicReference::Invokevirtual)),
+        INVOKESPECIAL => special_in(alloc, class, index),
+        INVOKESTATIC => Ok(method_in(alloc, pool, index)?.map(SymbolicReference::Invokestatic)),
+        NEW => Ok(class_in(alloc, pool, index)?.map(SymbolicReference::New)),
         189 => Ok(class_in(alloc, pool, index)?.map(SymbolicReference::Anewarray)),
         192 => Ok(class_in(alloc, pool, index)?.map(SymbolicReference::Checkcast)),
         193 => Ok(class_in(alloc, pool, index)?.map(SymbolicReference::Instanceof)),

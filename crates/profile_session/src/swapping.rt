@@ -2,7 +2,6 @@
 
 ghost use Rattle.std.specs.Prelude.{◌≡◌, ◌≤◌, ◌<◌, false, length, map, IfOk, MatchResult};
 ghost use Rattle.std.specs.List.{range_with_len};
-ghost use Rattle.jvm_model.specs.Profiling.Swaps.{first_number};
 ghost use Rattle.inject_events.specs.Answers.{MarkedHaveCode};
 ghost use Rattle.jvm_machine.specs.Installs.{with_class};
 ghost use Rattle.jvm_machine.specs.View.{world};
@@ -15,7 +14,7 @@ use crate::swap::Swap;
 use call_revelation::Reveal;
 use class_writer::write_class;
 use code_model::Homes;
-use hotswap::{SwapError, redefine};
+use hotswap::{SwapError, first_number, redefine};
 use inject_events::{Image, InjectError, instrument};
 use jf_bytes::{NoMemory, Seq};
 use jvm_machine::Vm;
@@ -28,15 +27,6 @@ pub struct Made {
     pub marks: Vec<Mark>,
     pub bytes: Vec<u8>,
     pub homes: Seq<Option<Homes>>,
-}
-
-/// How many methods with Code the classes in front of a class have: the number of its first one.
-fn first_number(program: &Program, class: u32) -> u32
-    requires { length program.now.methods ≤ 32768 }
-    ensures { result ≡ first_number program.now class }
-{
-    let places = program.methods.as_slice();
-    places.iter().filter(|place| place.class < class).count() as u32
 }
 
 /// The mark of the method at a position of a class; one without Code has none but Off.

@@ -1,13 +1,12 @@
 //! The objects that are made at most once.
 
-ghost use Rattle.std.specs.Prelude.{◌≡◌, ◌<◌, ◌++◌, ◌∷◌, [], None, IfOk, is_ok};
-ghost use Rattle.std.specs.Vec.{vec_len, vec_capacity};
+ghost use Rattle.std.specs.Prelude.{◌≡◌, None, IfOk, is_ok};
 ghost use Rattle.heap_objects.specs.Changes.{changed_if};
 ghost use Rattle.native_effects.specs.Inputs.MadeViews.{object_of_class, class_of_object, object_of_box};
 
 use crate::effects::kept::{BoxObject, ClassObject};
 use crate::inputs::numbers::CLASS_KIND;
-use heap_objects::{Datum, Heap, HeapError};
+use heap_objects::{Datum, Heap, HeapError, put_last};
 use std::alloc::Global;
 use std::marker::Model;
 
@@ -61,14 +60,6 @@ fn object_of_box(kind: u32, place: u32, boxes: &[BoxObject]) -> Option<u32>
         }
     }
     None
-}
-
-/// Puts an item behind the others, where there is room.
-fn put_last<T: Drop>(items: &mut Vec<T>, item: T)
-    requires { vec_len items.old < vec_capacity items.old }
-    ensures { items.new.items ≡ items.old.items ++ item ∷ [] }
-{
-    let _ = items.push(item);
 }
 
 impl Made {

@@ -1,11 +1,9 @@
 //! The kinds of the built-in classes that rules speak of.
 
 use base_classes::{
-    BOOLEAN, CHARACTER, CLASS, CLONEABLE, ENUM, FIRST_ARRAY, INTEGER, LONG, STRING, THROWABLE,
+    BOOLEAN, CHARACTER, CLASS, CLONEABLE, ENUM, FIRST_ARRAY, FIRST_CLASS_KIND, INTEGER, LONG,
+    STRING, THROWABLE,
 };
-
-/// The kinds of the built-in classes are counted from here on, in the order of their places.
-const FIRST_CLASS_KIND: u32 = 16;
 
 pub const CLONEABLE_KIND: u32 = FIRST_CLASS_KIND + CLONEABLE as u32;
 

@@ -21,6 +21,7 @@ ghost use Rattle.member_selection.specs.Answers.{abrupt_view};
 ghost use Rattle.symbolic_references.specs.Runtimes.{linker_in};
 
 use crate::runtime::Runtime;
+use const_pool::text_copy;
 use frame_stack::Frames;
 use jf_bytes::{NoMemory, Text16};
 use jvm_model::{Exception, MethodName, Phase};
@@ -29,13 +30,6 @@ use member_selection::{
     callee_of, method_found, names_interface, receiver_below, receiver_kind, selected_by,
 };
 use std::alloc::Global;
-
-/// A text with the same units.
-fn text_copied(alloc: Global, text: &Text16) -> Result<Text16, NoMemory>
-    ensures { IfOk result (λ copy. copy ≡ text.now) }
-{
-    Ok(Text16::new(Vec::from_slice(alloc, text.units())?))
-}
 
 impl Runtime {
     /// What is selected for objects of a kind, which is kept.
@@ -228,7 +222,7 @@ impl Runtime {
         ensures { IfOk result (λ name. name ≡ name_at self.now.world.program class) }
     {
         match self.linker.index().name_at(class) {
-            Some(name) => Ok(Some(text_copied(self.alloc, name)?)),
+            Some(name) => Ok(Some(text_copy(self.alloc, name)?)),
             None => Ok(None),
         }
     }
