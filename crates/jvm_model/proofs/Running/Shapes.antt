@@ -1,5 +1,5 @@
 -- What is read of a method descriptor is what the grammar says (JVM Specification 4.3.2, 4.3.3).
-use Rattle.std.proofs.Common.{◌≡◌, ◌≢◌, ◌↔◌, ℕ, zero, suc, ◌≤◌, Bool, true, false, eqb, leb, cond, List, [], ◌∷◌, ◌++◌, length, Option, Some, None, codes, refl, sym, ap, subst, ◌∙◌, append_assoc, arith}
+use Rattle.std.proofs.Common.{◌≡◌, ◌≢◌, ◌↔◌, ℕ, zero, suc, ◌≤◌, true, false, eqb, leb, List, [], ◌∷◌, ◌++◌, length, Option, Some, None, codes, refl, sym, ap, subst, ◌∙◌, append_assoc, arith}
 use Rattle.std.specs.Option.{option_and_then, option_map}
 use Rattle.std.specs.List.{AllByRecursion}
 use Rattle.std.proofs.lemmas.Bool.{eqb-true, eqb-false, ne_eqb, leb-true, le-leb}
@@ -14,6 +14,7 @@ use Rattle.const_pool.specs.Descriptors.{IsName, IsBase, IsField, AreFields, IsR
 use Rattle.const_pool.specs.Stages.{letter_kind}
 use Rattle.const_pool.proofs.FieldTexts.{chosen, not_failed}
 use Rattle.jvm_model.specs.Basis.Descriptors.{same_text, Typed, type_parsed, array_of, name_rest, class_rest, base_front, type_front, first_type, Params, with_param, parameters_closed, params_by, params_front, only_type, result_by, result_of, shape_with, with_result, with_room, shape_of}
+use Rattle.jvm_model.proofs.Images.ImagePools.{chosen_by}
 
 same_of : {A : Type 0} (x y : A) → ◌≡◌ {A = Option A} (Some x) (Some y) → x ≡ y
 same_of x y e = cc
@@ -105,11 +106,6 @@ method_read text shape h =
     ∙ room_read shape h.most))
 
 -- ---- what is read is in the grammar
-
--- a choice that came out with something was made
-tested : {A : Type 0} (b : Bool) (o : Option A) (y : A) → cond b o None ≡ Some y → (b ≡ true) × (o ≡ Some y)
-tested true o y e = (refl, e)
-tested false o y e = absurd cc
 
 by_letter : (unit letter : ℕ) (found kind : Kind) → IsBase (letter ∷ []) found → eqb unit letter ≡ true → ◌≡◌ {A = Option Kind} (Some found) (Some kind) → IsBase (unit ∷ []) kind
 by_letter unit letter found kind h same is =
@@ -240,7 +236,7 @@ closed_sound : (text : List ℕ) (p : Params) → parameters_closed text ≡ Som
 closed_sound [] p e = absurd cc
 closed_sound (unit ∷ rest) p e =
     let none : Params = record { kinds = []; rest = rest } in
-    let t = tested (eqb unit 41) (Some none) p e in
+    let t = chosen_by (eqb unit 41) (Some none) p e in
     let found : AreBefore (unit ∷ rest) none = record { params = []; fields = refl; spelled = ap (λ (u : ℕ). u ∷ rest) (eqb-true unit 41 t.0) } in
     subst (AreBefore (unit ∷ rest)) (same_of none p t.1) found
 
@@ -270,7 +266,7 @@ only_sound text front kind (unit ∷ rest) result field spelled e = absurd cc
 
 void_sound : (text : List ℕ) (result : Option Kind) → result_by text None ≡ Some result → IsResult text result
 void_sound text result e =
-    let t = tested (same_text text (codes "V")) (Some None) result e in
+    let t = chosen_by (same_text text (codes "V")) (Some None) result e in
     subst (IsResult text) (same_of None result t.1) ((bytes_eq-Decides text (codes "V")).0 t.0)
 
 result_by_sound : (text : List ℕ) (result : Option Kind) (o : Option Typed) → first_type text ≡ o → result_by text o ≡ Some result → IsResult text result
@@ -290,7 +286,7 @@ behind_open rest p result h returned most = record {
 open_sound : (rest : List ℕ) (shape : Shape) → option_and_then with_room (option_and_then with_result (params_front 255 rest)) ≡ Some shape → IsMethod (40 ∷ rest) shape
 open_sound rest shape e =
     let room = and_then_parts with_room (option_and_then with_result (params_front 255 rest)) shape e in
-    let fits = tested (leb (slot_count room.0.params) 255) (Some room.0) shape room.2 in
+    let fits = chosen_by (leb (slot_count room.0.params) 255) (Some room.0) shape room.2 in
     let given = and_then_parts with_result (params_front 255 rest) room.0 room.1 in
     let made = map_parts (shape_with given.0.kinds) (result_of given.0.rest) room.0 given.2 in
     let kinds : given.0.kinds ≡ room.0.params = ap (λ (s : Shape). s.params) made.2 in
@@ -301,7 +297,7 @@ open_sound rest shape e =
 pub method_sound : (text : List ℕ) (shape : Shape) → shape_of text ≡ Some shape → IsMethod text shape
 method_sound [] shape e = absurd cc
 method_sound (unit ∷ rest) shape e =
-    let t = tested (eqb unit 40) (option_and_then with_room (option_and_then with_result (params_front 255 rest))) shape e in
+    let t = chosen_by (eqb unit 40) (option_and_then with_room (option_and_then with_result (params_front 255 rest))) shape e in
     subst (λ (u : ℕ). IsMethod (u ∷ rest) shape) (sym (eqb-true unit 40 t.0)) (open_sound rest shape t.1)
 
 -- ---- both
