@@ -15,13 +15,8 @@ use Rattle.inject_events.proofs.Rooms.{neither}
 use Rattle.admit_check.specs.Admission.{class_fault, classes_fault}
 use Rattle.code_admission.specs.Checks.{fault_if}
 use Rattle.admit_check.specs.Shapes.{has_same_name, has_wrong_name, is_reserved, is_taken_name, name_fault, own_name, same_named, shape_fault}
+use Rattle.code_admission.proofs.CodeStarts.{no-fault}
 use Rattle.code_admission.proofs.Positions.{position-behind, position-first}
-
--- ---- tests
-
-no-fault : {E : Type 0} (b : Bool) (fault : E) → fault_if b fault ≡ None → b ≡ false
-no-fault true fault e = absurd (none-some fault (sym e))
-no-fault false fault e = refl
 
 -- ---- one class
 

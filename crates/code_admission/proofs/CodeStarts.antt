@@ -41,6 +41,10 @@ pub mapped-none : {A B : Type 0} (f : A → B) (o : Option A) → option_map f o
 mapped-none f None e = refl
 mapped-none f (Some x) e = absurd (none-some (f x) (sym e))
 
+pub no-fault : {A : Type 0} (b : Bool) (why : A) → fault_if b why ≡ None → b ≡ false
+no-fault true why e = absurd (none-some why (sym e))
+no-fault false why e = refl
+
 pub fits-of : {A : Type 0} (b : Bool) (why : A) → fault_if (not b) why ≡ None → b ≡ true
 fits-of true why e = refl
 fits-of false why e = absurd (none-some why (sym e))
