@@ -6,6 +6,7 @@ use Rattle.std.proofs.lemmas.Bool.{eqb-true, eqb-false, ne_eqb, leb-true, le-leb
 use Rattle.std.proofs.lemmas.List.{append-nil}
 use Rattle.std.proofs.lemmas.List.Sums.{sum_by-cons}
 use Rattle.std.proofs.lemmas.Slice.Eq.{bytes_eq-Decides}
+use Rattle.std.proofs.lemmas.Option.{same_Some}
 use Rattle.jf_bytes.proofs.Options.{map_parts, and_then_parts}
 use Rattle.const_pool.specs.declared.descriptor.Kind.{Kind}
 use Rattle.const_pool.specs.declared.descriptor.Kind.TheVariants.{Int, Long, Ref, Byte, Bool as boolean, Char, Short, Float, Double}
@@ -15,9 +16,6 @@ use Rattle.const_pool.specs.Stages.{letter_kind}
 use Rattle.const_pool.proofs.FieldTexts.{chosen, not_failed}
 use Rattle.jvm_model.specs.Basis.Descriptors.{same_text, Typed, type_parsed, array_of, name_rest, class_rest, base_front, type_front, first_type, Params, with_param, parameters_closed, params_by, params_front, only_type, result_by, result_of, shape_with, with_result, with_room, shape_of}
 use Rattle.jvm_model.proofs.Images.ImagePools.{chosen_by}
-
-same_of : {A : Type 0} (x y : A) → ◌≡◌ {A = Option A} (Some x) (Some y) → x ≡ y
-same_of x y e = cc
 
 -- ---- what is in the grammar is read
 
@@ -109,7 +107,7 @@ method_read text shape h =
 
 by_letter : (unit letter : ℕ) (found kind : Kind) → IsBase (letter ∷ []) found → eqb unit letter ≡ true → ◌≡◌ {A = Option Kind} (Some found) (Some kind) → IsBase (unit ∷ []) kind
 by_letter unit letter found kind h same is =
-    subst (λ (k : Kind). IsBase (unit ∷ []) k) (same_of found kind is) (subst (λ (u : ℕ). IsBase (u ∷ []) found) (sym (eqb-true unit letter same)) h)
+    subst (λ (k : Kind). IsBase (unit ∷ []) k) (same_Some found kind is) (subst (λ (u : ℕ). IsBase (u ∷ []) found) (sym (eqb-true unit letter same)) h)
 
 letter_base : (unit : ℕ) (kind : Kind) → letter_kind unit ≡ Some kind → IsBase (unit ∷ []) kind
 letter_base unit kind e =
@@ -137,7 +135,7 @@ name_sound (unit ∷ text) rest e =
     chosen _ _ _ _ e
     (λ same is.
     let here : IsNamed (59 ∷ text) text = record { name = []; plain = tt; spelled = refl } in
-    subst (λ (u : ℕ). IsNamed (u ∷ text) rest) (sym (eqb-true unit 59 same)) (subst (IsNamed (59 ∷ text)) (same_of text rest is) here))
+    subst (λ (u : ℕ). IsNamed (u ∷ text) rest) (sym (eqb-true unit 59 same)) (subst (IsNamed (59 ∷ text)) (same_Some text rest is) here))
     (λ apart is.
     let r = name_sound text rest is in
     record { name = unit ∷ r.name; plain = (semicolon_not unit apart, r.plain); spelled = ap (λ (t : List ℕ). unit ∷ t) r.spelled })
@@ -238,7 +236,7 @@ closed_sound (unit ∷ rest) p e =
     let none : Params = record { kinds = []; rest = rest } in
     let t = chosen_by (eqb unit 41) (Some none) p e in
     let found : AreBefore (unit ∷ rest) none = record { params = []; fields = refl; spelled = ap (λ (u : ℕ). u ∷ rest) (eqb-true unit 41 t.0) } in
-    subst (AreBefore (unit ∷ rest)) (same_of none p t.1) found
+    subst (AreBefore (unit ∷ rest)) (same_Some none p t.1) found
 
 one_more : (text first : List ℕ) (kind : Kind) (rest : List ℕ) (p : Params) → IsField first kind → text ≡ first ++ rest → AreBefore rest p → AreBefore text (with_param kind p)
 one_more text first kind rest p field spelled h = record {
@@ -261,13 +259,13 @@ params_sound (suc n) text p e = params_by_sound n text p (first_type text) refl 
 
 only_sound : (text front : List ℕ) (kind : Kind) (rest : List ℕ) (result : Option Kind) → IsField front kind → text ≡ front ++ rest → only_type kind rest ≡ Some result → IsResult text result
 only_sound text front kind [] result field spelled e =
-    subst (IsResult text) (same_of (Some kind) result e) (subst (λ (t : List ℕ). IsField t kind) (sym (spelled ∙ append-nil front)) field)
+    subst (IsResult text) (same_Some (Some kind) result e) (subst (λ (t : List ℕ). IsField t kind) (sym (spelled ∙ append-nil front)) field)
 only_sound text front kind (unit ∷ rest) result field spelled e = absurd cc
 
 void_sound : (text : List ℕ) (result : Option Kind) → result_by text None ≡ Some result → IsResult text result
 void_sound text result e =
     let t = chosen_by (same_text text (codes "V")) (Some None) result e in
-    subst (IsResult text) (same_of None result t.1) ((bytes_eq-Decides text (codes "V")).0 t.0)
+    subst (IsResult text) (same_Some None result t.1) ((bytes_eq-Decides text (codes "V")).0 t.0)
 
 result_by_sound : (text : List ℕ) (result : Option Kind) (o : Option Typed) → first_type text ≡ o → result_by text o ≡ Some result → IsResult text result
 result_by_sound text result None is e = void_sound text result e
@@ -292,7 +290,7 @@ open_sound rest shape e =
     let kinds : given.0.kinds ≡ room.0.params = ap (λ (s : Shape). s.params) made.2 in
     let most : slot_count given.0.kinds ≤ 255 = leb-true (slot_count given.0.kinds) 255 (ap (λ (ks : List Kind). leb (slot_count ks) 255) kinds ∙ fits.0) in
     let found = behind_open rest given.0 made.0 (params_sound 255 rest given.0 given.1) (result_by_sound given.0.rest made.0 (first_type given.0.rest) refl made.1) most in
-    subst (IsMethod (40 ∷ rest)) (made.2 ∙ same_of room.0 shape fits.1) found
+    subst (IsMethod (40 ∷ rest)) (made.2 ∙ same_Some room.0 shape fits.1) found
 
 pub method_sound : (text : List ℕ) (shape : Shape) → shape_of text ≡ Some shape → IsMethod text shape
 method_sound [] shape e = absurd cc
