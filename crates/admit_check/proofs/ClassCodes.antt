@@ -1,5 +1,5 @@
 -- The codes of a class that breaks no rule: they are read, lead to themselves, and each instruction has an operation.
-use Rattle.std.proofs.Common.{◌≡◌, ℕ, zero, suc, ◌+◌, Bool, true, false, List, [], ◌∷◌, ◌++◌, length, map, Option, Some, None, Result, Ok, refl, sym, subst}
+use Rattle.std.proofs.Common.{◌≡◌, ℕ, zero, suc, ◌+◌, true, List, [], ◌∷◌, ◌++◌, length, map, Option, Some, None, Result, Ok, refl, subst}
 use Rattle.std.specs.Prelude.{not, slice_get}
 use Rattle.std.specs.List.{AllByRecursion}
 use Rattle.std.specs.Option.{option_and_then, option_map, option_or}
@@ -38,7 +38,7 @@ use Rattle.jvm_model.specs.Soundness.Whole.{HasSoundCode, instrs_of}
 use Rattle.jvm_model.proofs.Soundness.PoolTexts.{have-texts, named-there}
 use Rattle.code_admission.proofs.Operations.{operation-there}
 use Rattle.code_admission.proofs.ReadCodes.{code-read}
-use Rattle.code_admission.proofs.CodeStarts.{code-sound, first-none, fits-of, mapped-none, read-as, rest-none}
+use Rattle.code_admission.proofs.CodeStarts.{code-sound, first-none, fits-of, mapped-none, no-fault, read-as, rest-none}
 
 -- each code of the class leads to its own starts
 abbrev pub HaveSoundCodes : ClassFile → Type 0
@@ -96,10 +96,6 @@ body-none k pool first [] n m none at = absurd (none-some m at)
 body-none k pool first (x ∷ rest) zero m none at =
     (first, subst (λ (y : Member). floating_body k pool first (reading_of y) ≡ None) (same_Some x m at) (first-none (floating_body k pool first (reading_of x)) _ none))
 body-none k pool first (x ∷ rest) (suc n) m none at = body-none k pool (first + 1) rest n m (rest-none (floating_body k pool first (reading_of x)) _ none) at
-
-no-fault : {A : Type 0} (b : Bool) (why : A) → fault_if b why ≡ None → b ≡ false
-no-fault true why e = absurd (none-some why (sym e))
-no-fault false why e = refl
 
 code-floats : (k : ℕ) (c : ClassFile) (n : ℕ) (m : Member) (code : CodeAttribute) (instrs : List Instr) → floating_fault k c ≡ None → slice_get c.methods n ≡ Some m → code_of m ≡ Some code
     → instructions_of code.code ≡ Ok instrs → first_floating c.pool instrs ≡ None

@@ -2,7 +2,7 @@
 use Rattle.std.proofs.Common.{◌≡◌, ℕ, zero, suc, Bool, true, false, List, [], ◌∷◌, ◌++◌, length, position, slice_get, Option, Some, None, refl, sym, ap, ◌∙◌}
 use Rattle.std.specs.Prelude.{◌||◌, ◌==◌}
 use Rattle.std.specs.List.{AllByRecursion, list_any}
-use Rattle.std.specs.Option.{option_map_or, option_or}
+use Rattle.std.specs.Option.{option_map_or}
 use Rattle.std.proofs.lemmas.Option.{same_Some, none-some}
 use Rattle.std.proofs.lemmas.Slice.Eq.{bytes_eq-Decides}
 use Rattle.std.proofs.lemmas.Bool.{or_parts}
@@ -11,20 +11,12 @@ use Rattle.const_pool.specs.BuiltIn.{built_in_names, probe_class}
 use Rattle.jvm_model.specs.Basis.Descriptors.{same_text}
 use Rattle.jvm_model.specs.Classes.Kinds.{is_array_name}
 use Rattle.jvm_model.specs.Basis.Programs.{has_built_in_name, has_name, name_of}
+use Rattle.inject_events.proofs.Rooms.{neither}
 use Rattle.admit_check.specs.Admission.{class_fault, classes_fault}
 use Rattle.code_admission.specs.Checks.{fault_if}
 use Rattle.admit_check.specs.Shapes.{has_same_name, has_wrong_name, is_reserved, is_taken_name, name_fault, own_name, same_named, shape_fault}
+use Rattle.code_admission.proofs.CodeStarts.{no-fault}
 use Rattle.code_admission.proofs.Positions.{position-behind, position-first}
-
--- ---- tests
-
-or-none : {E : Type 0} (a b : Option E) → option_or a b ≡ None → (a ≡ None) × (b ≡ None)
-or-none None b e = (refl, e)
-or-none (Some x) b e = absurd (none-some x (sym e))
-
-no-fault : {E : Type 0} (b : Bool) (fault : E) → fault_if b fault ≡ None → b ≡ false
-no-fault true fault e = absurd (none-some fault (sym e))
-no-fault false fault e = refl
 
 -- ---- one class
 
@@ -48,11 +40,11 @@ record IsSoundAt (earlier : List ClassFile) (c : ClassFile) : Type 0 where
 
 sound-at : (earlier : List ClassFile) (k : ℕ) (c : ClassFile) → class_fault earlier k c ≡ None → IsSoundAt earlier c
 sound-at earlier k c e =
-    let name = or-none (name_fault earlier k c) _ e in
-    let shape = or-none (shape_fault k c) _ name.1 in
-    let reserved = or-none (fault_if (is_reserved c) _) _ name.0 in
-    let double = or-none (fault_if (list_any (has_same_name c) earlier) _) _ reserved.1 in
-    let wrong = or-none (fault_if (has_wrong_name c) _) _ shape.0 in
+    let name = neither (name_fault earlier k c) _ e in
+    let shape = neither (shape_fault k c) _ name.1 in
+    let reserved = neither (fault_if (is_reserved c) _) _ name.0 in
+    let double = neither (fault_if (list_any (has_same_name c) earlier) _) _ reserved.1 in
+    let wrong = neither (fault_if (has_wrong_name c) _) _ shape.0 in
     record {
       class = record {
         free = taken-free (own_name c) (or_parts (option_map_or is_taken_name (own_name c) false) _ (no-fault (is_reserved c) _ reserved.0)).0;
@@ -66,7 +58,7 @@ sound-at earlier k c e =
 pub own-classes : (earlier classes : List ClassFile) → classes_fault earlier classes ≡ None → AllByRecursion IsOwnClass classes
 own-classes earlier [] e = tt
 own-classes earlier (c ∷ rest) e =
-    let parts = or-none (class_fault earlier (length earlier) c) _ e in
+    let parts = neither (class_fault earlier (length earlier) c) _ e in
     ((sound-at earlier (length earlier) c parts.0).class, own-classes (earlier ++ c ∷ []) rest parts.1)
 
 -- the same test of names
@@ -100,14 +92,14 @@ first-named : (earlier classes more : List ClassFile) (at : ℕ) (c : ClassFile)
     → IsFirstNamed earlier classes more name at
 first-named earlier [] more at c name e there is = absurd (none-some c there)
 first-named earlier (x ∷ rest) more zero c name e there is =
-    let parts = or-none (class_fault earlier (length earlier) x) _ e in
+    let parts = neither (class_fault earlier (length earlier) x) _ e in
     let same : name_of x ≡ Some name = ap name_of (same_Some x c there) ∙ is in
     record {
       place = position-first (has_name name) x (rest ++ more) (has-own x name same);
       none = sym (same-tests x name earlier same) ∙ (sound-at earlier (length earlier) x parts.0).differs;
     }
 first-named earlier (x ∷ rest) more (suc at) c name e there is =
-    let parts = or-none (class_fault earlier (length earlier) x) _ e in
+    let parts = neither (class_fault earlier (length earlier) x) _ e in
     let behind = first-named (earlier ++ x ∷ []) rest more at c name parts.1 there is in
     let none = any-end (has_name name) earlier x behind.none in
     record { place = position-behind (has_name name) x (rest ++ more) at none.1 behind.place; none = none.0 }

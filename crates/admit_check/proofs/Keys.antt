@@ -3,6 +3,7 @@ use Rattle.std.proofs.Common.{◌≡◌, ℕ, Bool, true, false, List, [], ◌�
 use Rattle.std.specs.Prelude.{◌&&◌, ◌||◌, if◌then◌else◌}
 use Rattle.std.specs.List.{list_any}
 use Rattle.std.specs.Option.{option_and_then, option_map}
+use Rattle.std.proofs.Math.Bool.{and-false, and_assoc}
 use Rattle.const_pool.specs.declared.pool.Const.{Const}
 use Rattle.const_pool.specs.declared.class.Member.{Member}
 use Rattle.const_pool.specs.References.{named_text}
@@ -12,30 +13,22 @@ use Rattle.admit_check.specs.Twins.{key_text, member_key, has_key, with_key, has
 
 -- ---- texts
 
-and-assoc : (a b c : Bool) → (a && (b && c)) ≡ ((a && b) && c)
-and-assoc true b c = refl
-and-assoc false b c = refl
-
 pub same_key_text : (n m d e : List ℕ) → same_text (key_text n d) (key_text m e) ≡ (same_text n m && same_text d e)
 same_key_text [] [] d e = refl
 same_key_text [] (v ∷ m) d e = refl
 same_key_text (u ∷ n) [] d e = refl
-same_key_text (u ∷ n) (v ∷ m) d e = ap (λ b. eqb u v && b) (same_key_text n m d e) ∙ and-assoc (eqb u v) (same_text n m) (same_text d e)
+same_key_text (u ∷ n) (v ∷ m) d e = ap (λ b. eqb u v && b) (same_key_text n m d e) ∙ sym (and_assoc (eqb u v) (same_text n m) (same_text d e))
 
 -- ---- keys, where a text may be missing
 
 abbrev key_of : Option (List ℕ) → Option (List ℕ) → Option (List ℕ)
 key_of name descriptor = option_and_then (λ n. option_map (key_text n) descriptor) name
 
-and-none : (b : Bool) → false ≡ (b && false)
-and-none true = refl
-and-none false = refl
-
 same_keys : (n d m e : Option (List ℕ)) → same_named (key_of n d) (key_of m e) ≡ (same_named n m && same_named d e)
 same_keys (Some n) (Some d) (Some m) (Some e) = same_key_text n m d e
-same_keys (Some n) (Some d) (Some m) None = and-none (same_text n m)
-same_keys (Some n) None (Some m) (Some e) = and-none (same_text n m)
-same_keys (Some n) None (Some m) None = and-none (same_text n m)
+same_keys (Some n) (Some d) (Some m) None = sym (and-false (same_text n m))
+same_keys (Some n) None (Some m) (Some e) = sym (and-false (same_text n m))
+same_keys (Some n) None (Some m) None = sym (and-false (same_text n m))
 same_keys (Some n) (Some d) None e = refl
 same_keys (Some n) None None e = refl
 same_keys None d m e = refl

@@ -12,7 +12,7 @@ use Rattle.class_linker.specs.declared.loading.Need.{Need}
 use Rattle.class_linker.specs.declared.loading.Standing.{Standing}
 use Rattle.class_linker.specs.declared.loading.Standing.TheVariants.{Fresh}
 use Rattle.class_linker.specs.States.{HaveLoadedClasses, IfFresh, IsFresh, fault_view, loading_view, need_view}
-use Rattle.jvm_model.proofs.Loading.LoadOrder.{not_loaded}
+use Rattle.jvm_model.proofs.Loading.LoadKept.{not_loaded}
 use Rattle.jvm_model.proofs.Loading.Among.{among-last}
 use Rattle.class_linker.proofs.LoadWalks.{all_have, fresh_of, interfaces_pass, needs_done, stops_at, stops_behind, superclass_passes}
 

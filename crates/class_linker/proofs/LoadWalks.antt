@@ -13,7 +13,7 @@ use Rattle.jvm_model.specs.Classes.Load.{Fault, Circular, Incompatible, Loading,
 use Rattle.jvm_model.specs.Classes.Lookup.{interface_names, interfaces_of, is_interface, superclass_of}
 use Rattle.jvm_model.specs.Basis.Programs.{class_at, class_named}
 use Rattle.jvm_model.specs.declared.program.Program.{Program}
-use Rattle.jvm_model.proofs.Loading.LoadOrder.{named_kept, needs_kept}
+use Rattle.jvm_model.proofs.Loading.LoadKept.{named_kept, needs_kept}
 use Rattle.jvm_model.proofs.Loading.Among.{among-last, among-front}
 use Rattle.class_linker.specs.declared.loading.Fault as code
 use Rattle.class_linker.specs.declared.loading.Standing.{Standing}

@@ -6,6 +6,7 @@ use Rattle.std.specs.Option.{option_map_or}
 use Rattle.std.proofs.lemmas.List.{append_assoc, append-nil, length-set}
 use Rattle.std.proofs.lemmas.List.Sums.{sum_by-cons}
 use Rattle.std.proofs.lemmas.Bool.{false≢true, eqb-true, and_parts}
+use Rattle.std.proofs.lemmas.Option.{same_Some}
 use Rattle.jvm_model.specs.declared.program.Program.{Program}
 use Rattle.jvm_model.specs.Classes.Layouts.{layout_within, own_kinds}
 use Rattle.jvm_model.specs.Classes.Lookup.{interfaces_of, is_interface, superclass_of, superclasses_within, superinterfaces_within, supertypes_within}
@@ -251,14 +252,11 @@ module _ (p : Program) (rows : LoadedClassRows) (class : ℕ) (are : AreLoadedCl
   own_loaded_class zero most = absurd (omega arith)
   own_loaded_class (suc n) most = row_is p rows are n (omega arith) class interfaces above
 
-  the_same : (r s : LoadedClass) → Some r ≡ Some s → r ≡ s
-  the_same r s e = cc
-
   each_after : (b : Bool) (c bound : ℕ) (r : LoadedClass) → (c == class) ≡ b → loaded_class_at after c ≡ Some r → held_count rows + 1 ≤ bound → IsLoadedClass p bound c r
   each_after true c bound r is found most =
       let e = eqb-true c class is in
       let at_own : loaded_class_at after class ≡ Some r = ap (loaded_class_at after) (sym e) ∙ found in
-      let made : loaded_class_made p rows class ≡ r = the_same (loaded_class_made p rows class) r (sym (loaded_class_at-set_same rows class (loaded_class_made p rows class) within) ∙ at_own) in
+      let made : loaded_class_made p rows class ≡ r = same_Some (loaded_class_made p rows class) r (sym (loaded_class_at-set_same rows class (loaded_class_made p rows class) within) ∙ at_own) in
       subst (λ k. IsLoadedClass p bound k r) (sym e) (subst (IsLoadedClass p bound class) made (own_loaded_class bound most))
   each_after false c bound r is found most =
       are.each c bound r (sym (loaded_class_at-set_other rows class c (Some (loaded_class_made p rows class)) (apart is)) ∙ found) (omega arith)
@@ -282,7 +280,7 @@ module _ (p : Program) (rows : LoadedClassRows) (class : ℕ) (are : AreLoadedCl
   closed_after : (b : Bool) (c : ℕ) (r : LoadedClass) → (c == class) ≡ b → loaded_class_at after c ≡ Some r → IsClosed after r
   closed_after true c r is found =
       let at_own : loaded_class_at after class ≡ Some r = ap (loaded_class_at after) (sym (eqb-true c class is)) ∙ found in
-      subst (IsClosed after) (the_same (loaded_class_made p rows class) r (sym (loaded_class_at-set_same rows class (loaded_class_made p rows class) within) ∙ at_own))
+      subst (IsClosed after) (same_Some (loaded_class_made p rows class) r (sym (loaded_class_at-set_same rows class (loaded_class_made p rows class) within) ∙ at_own))
       (closed_made p rows are after added-kept class added-there interfaces above)
   closed_after false c r is found =
       closed_kept p rows are after added-kept r

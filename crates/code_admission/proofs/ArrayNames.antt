@@ -31,7 +31,7 @@ before-there name plain =
     ap (λ o. is_some (option_and_then (λ at. cond (at + 1 == length (name ++ codes ";")) (Some (take at (name ++ codes ";"))) None) o)) (position-end name plain)
     ∙ ap (λ b. is_some (cond b (Some (take (length name) (name ++ codes ";"))) None)) (eq-eqb (length name + 1) (length (name ++ codes ";")) long)
 
-mapped-there : {A B : Type 0} (f : A → B) (o : Option A) → is_some o ≡ true → is_some (option_map f o) ≡ true
+pub mapped-there : {A B : Type 0} (f : A → B) (o : Option A) → is_some o ≡ true → is_some (option_map f o) ≡ true
 mapped-there f None e = e
 mapped-there f (Some x) e = refl
 

@@ -20,6 +20,7 @@ use Rattle.code_model.proofs.Reading.Lengths.{size_at-some}
 use Rattle.code_model.proofs.Reading.Readings.{at-instruction_at, instruction_at-past, instruction_at_within}
 use Rattle.jvm_model.specs.Codes.Lines.{targets_of}
 use Rattle.jvm_model.specs.Codes.Places.{is_start_in, read_from}
+use Rattle.inject_events.proofs.Rooms.{neither}
 use Rattle.code_admission.specs.Checks.{fault_if, first_in}
 use Rattle.code_admission.specs.Codes.{Method, cause_of, code_fault, fault_by, fits_handler, handler_fault, instr_fault, method_with, read_fault}
 use Rattle.code_model.specs.Groups.{is_start}
@@ -31,16 +32,18 @@ use Rattle.code_admission.proofs.ReadCodes.{code-read}
 -- ---- the first of several
 
 pub first-none : {A : Type 0} (a b : Option A) → option_or a b ≡ None → a ≡ None
-first-none None b e = refl
-first-none (Some x) b e = absurd (none-some x (sym e))
+first-none a b e = (neither a b e).0
 
 pub rest-none : {A : Type 0} (a b : Option A) → option_or a b ≡ None → b ≡ None
-rest-none None b e = e
-rest-none (Some x) b e = absurd (none-some x (sym e))
+rest-none a b e = (neither a b e).1
 
 pub mapped-none : {A B : Type 0} (f : A → B) (o : Option A) → option_map f o ≡ None → o ≡ None
 mapped-none f None e = refl
 mapped-none f (Some x) e = absurd (none-some (f x) (sym e))
+
+pub no-fault : {A : Type 0} (b : Bool) (why : A) → fault_if b why ≡ None → b ≡ false
+no-fault true why e = absurd (none-some why (sym e))
+no-fault false why e = refl
 
 pub fits-of : {A : Type 0} (b : Bool) (why : A) → fault_if (not b) why ≡ None → b ≡ true
 fits-of true why e = refl

@@ -38,7 +38,7 @@ use Rattle.jvm_model.proofs.Running.Opcodes.{all_below, all_below-each}
 use Rattle.code_admission.specs.Floating.{is_floating_entry, is_floating_index, is_floating_instr, is_floating_operand}
 use Rattle.code_admission.specs.Texts.{dimensions_of, is_class_name}
 use Rattle.code_admission.specs.Uses.{fits_pool, fits_type, fits_use, is_loadable, is_wide_constant, named_dimensions, pool_use}
-use Rattle.code_admission.proofs.ArrayNames.{class-dimensions}
+use Rattle.code_admission.proofs.ArrayNames.{class-dimensions, mapped-there}
 use Rattle.jvm_model.proofs.Soundness.PoolTexts.{HaveTexts}
 use Rattle.jvm_model.specs.Instructions.ObjectRules.{array_kind}
 
@@ -180,10 +180,6 @@ fits bytes at i stands =
 mapped-some : {A : Type 0} (test : A → Bool) (o : Option A) → option_map_or test o false ≡ true → is_some o ≡ true
 mapped-some test None h = h
 mapped-some test (Some x) h = refl
-
-mapped-there : {A B : Type 0} (f : A → B) (o : Option A) → is_some o ≡ true → is_some (option_map f o) ≡ true
-mapped-there f None e = e
-mapped-there f (Some x) e = refl
 
 -- a symbolic reference whose dimensions are as they have to be
 there : (n : SymbolicReference) → has_dimensions n ≡ true → is_some (named_by n) ≡ true

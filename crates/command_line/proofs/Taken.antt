@@ -6,6 +6,7 @@ use Rattle.std.specs.Option.{option_map_or}
 use Rattle.std.specs.List.{list_all}
 use Rattle.std.specs.Str.{bytes_eq, chars}
 use Rattle.std.proofs.lemmas.Bool.{and_parts}
+use Rattle.std.proofs.Math.Bool.{and_assoc}
 use Rattle.clap.specs.Lexer.{long_of, short_of}
 use Rattle.clap.specs.Facts.{parser_of_value, unwrap_or_range}
 use Rattle.clap.specs.ValueTests.{accepts}
@@ -78,14 +79,10 @@ of_action Version again a values rows = refl
 of_range : (least most n : ℕ) → (nat_le least n && nat_le n most) ≡ none (range_kinds least most n)
 of_range least most n = grind (arith, rules)
 
-together : (a b c : Bool) → (a && (b && c)) ≡ ((a && b) && c)
-together true b c = refl
-together false b c = refl
-
 of_use : (again : Bool) (a : Rule) (values : List Text) (rows : List Row) → use_passes again a values rows ≡ none (use_fault again a values rows)
 of_use again a values rows =
     let least = (unwrap_or_range a.range).start_inclusive in
-    together (nat_le least (length values)) (nat_le (length values) (most_values a)) _
+    sym (and_assoc (nat_le least (length values)) (nat_le (length values) (most_values a)) _)
     ∙ two _ _ (range_kinds least (most_values a) (length values)) (action_fault (action_of a) again a (values_or_missing a values) rows)
     (of_range least (most_values a) (length values)) (of_action (action_of a) again a (values_or_missing a values) rows)
 

@@ -1,19 +1,20 @@
 -- Which instructions are left to others, and which throw.
-use Rattle.std.proofs.Common.{◌≡◌, ◌↔◌, ℕ, ◌<◌, Bool, true, false, not, cond, get_or, length, List, [], ◌∷◌, ℤ, pos, refl, sym, ap, ◌∙◌, subst, arith}
+use Rattle.std.proofs.Common.{◌≡◌, ◌↔◌, ℕ, ◌<◌, Bool, true, false, List, [], ◌∷◌, ℤ, pos, refl, sym, ap, ◌∙◌, subst}
 use Rattle.std.specs.Prelude.{Option, Some, None, IsTrue, drop, slice_get, if◌then◌else◌}
+use Rattle.std.specs.Bool.{beq}
+use Rattle.std.specs.Cmp.{booleans_Decides}
 use Rattle.std.specs.Option.{option_map, option_and_then}
 use Rattle.std.specs.Ordering.{int_eq}
 use Rattle.std.specs.Int.{Width, w32, w64}
 use Rattle.std.specs.List.{list_all, range_with_len}
 use Rattle.std.proofs.lemmas.Bool.{false≢true}
-use Rattle.std.proofs.lemmas.List.FromFn.{length-range_with_len, get_or-range_with_len}
-use Rattle.std.proofs.lemmas.List.Sums.{AllPass-from_list_all}
 use Rattle.heap_objects.specs.declared.Value.{Value}
 use Rattle.heap_objects.specs.declared.Value.TheVariants.{Int, Long}
 use Rattle.frame_stack.specs.FrameLists.{PlacedFrame, FramesView, with_frames, top_operands}
 use Rattle.code_model.specs.declared.instr.Arg.{Arg}
 use Rattle.code_model.specs.declared.instr.Instr.{Instr}
 use Rattle.op_table.specs.Opcodes.{groups, row_of}
+use Rattle.op_table.proofs.Entries.{holds_below}
 use Rattle.jvm_basic.specs.declared.effect.Effect.{Effect}
 use Rattle.jvm_basic.specs.declared.effect.Effect.TheVariants.{Next, Throws, Bad, Other}
 use Rattle.jvm_model.specs.declared.family.Division.{Division}
@@ -220,27 +221,12 @@ effect-raises Leaves fs class e = absurd (false≢true (ap is_throw e))
 
 -- ---- by opcode
 
--- b and c are the same
-abbrev same : Bool → Bool → Bool
-same b c = cond b c (not c)
-
-equal-from-same : (b c : Bool) → same b c ≡ true → b ≡ c
-equal-from-same true c h = sym h
-equal-from-same false true h = h
-equal-from-same false false h = refl
-
-pub holds-below : (p : ℕ → Bool) (n k : ℕ) → list_all p (range_with_len 0 n) ≡ true → k < n → p k ≡ true
-holds-below p n k e h =
-    let within : k < length (range_with_len 0 n) = subst (λ m. k < m) (sym (length-range_with_len 0 n)) h in
-    let here : get_or (range_with_len 0 n) k 0 ≡ k = get_or-range_with_len 0 n k 0 h ∙ omega arith in
-    subst (λ m. p m ≡ true) here (AllPass-from_list_all p (range_with_len 0 n) e k 0 within)
-
-elsewhere-fits : list_all (λ op. same (other (family_of op)) (is_elsewhere op)) (range_with_len 0 256) ≡ true
+elsewhere-fits : list_all (λ op. beq (other (family_of op)) (is_elsewhere op)) (range_with_len 0 256) ≡ true
 unfolding family_of rows row_of groups
 elsewhere-fits = refl
 
 elsewhere-is : (op : ℕ) → op < 256 → other (family_of op) ≡ is_elsewhere op
-elsewhere-is op h = equal-from-same _ _ (holds-below (λ k. same (other (family_of k)) (is_elsewhere k)) 256 op elsewhere-fits h)
+elsewhere-is op h = (booleans_Decides _ _).0 (holds_below (λ k. beq (other (family_of k)) (is_elsewhere k)) 256 op elsewhere-fits h)
 
 -- ---- the effect of an instruction
 

@@ -6,6 +6,7 @@ use Rattle.std.proofs.lemmas.Bool.{false≢true}
 use Rattle.op_table.specs.declared.Form.{Form}
 use Rattle.op_table.specs.declared.Form.TheVariants as form
 use Rattle.op_table.specs.Opcodes.{groups, row_of, wide_groups, wide_row_of}
+use Rattle.op_table.proofs.Entries.{holds_below}
 use Rattle.code_model.specs.declared.instr.Arg.{Arg}
 use Rattle.code_model.specs.declared.instr.Instr.{Instr}
 use Rattle.code_model.specs.Operands.{form_of}
@@ -14,7 +15,6 @@ use Rattle.code_model.proofs.Reading.Readings.{stands_from}
 use Rattle.jvm_model.specs.Basis.Families.{rows, family_of}
 use Rattle.jvm_model.specs.Codes.Lines.{value_in, slot_in, increment_in, target_in, keys_in}
 use Rattle.jvm_basic.specs.Laws.{Need, Nothing, Number, Slot, Increment, BranchTarget, Choice, need_of, has_operand, HasItsOperand}
-use Rattle.jvm_basic.proofs.Exact.{holds-below}
 
 -- operands of this form are what is needed, or there are none of this form
 abbrev suits : Need → Form → Bool
@@ -81,5 +81,5 @@ pub has-its-operand : (i : Instr) → i.op < 256 → HasItsOperand i
 has-its-operand i below bytes at e =
     let s = stands_from bytes at i e in
     let k = instruction_spelled at s.text i s.spelled in
-    let suited = holds-below (λ op. suits (need_of (family_of op)) (form_of i.wide op)) 256 i.op (suit i.wide) below in
+    let suited = holds_below (λ op. suits (need_of (family_of op)) (form_of i.wide op)) 256 i.op (suit i.wide) below in
     shape-suits (need_of (family_of i.op)) (form_of i.wide i.op) i.arg suited k.shape

@@ -4,6 +4,7 @@ use Rattle.std.specs.Prelude.{Option, Some, None, length, drop, slice_get, is_so
 use Rattle.std.specs.List.{list_any}
 use Rattle.std.specs.Option.{option_map, option_and_then, option_flatten}
 use Rattle.std.proofs.lemmas.Bool.{false≢true}
+use Rattle.std.proofs.Math.Bool.{and-false, and-true}
 use Rattle.heap_objects.specs.declared.Value.{Value}
 use Rattle.heap_objects.specs.declared.Value.TheVariants.{Int, Long, Ref, Addr}
 use Rattle.frame_stack.specs.FrameLists.{PlacedFrame, FramesView, top_operands}
@@ -123,21 +124,13 @@ loads-breaks k (Some slot) next l o = by (slice_get l slot)
     by (Some None) = refl
     by (Some (Some v)) = kept (has_kind k v) v
 
-alone : (b c : Bool) → (b && c) ≡ ((b && true) && c)
-alone true c = refl
-alone false c = refl
-
-and-false : (b : Bool) → false ≡ (b && false)
-and-false true = refl
-and-false false = refl
-
 stores-breaks : (k : Kind) (slot : Option ℕ) (next : ℕ) (l : Locals) (o : Operands)
     → breaks (stores k slot next l o) ≡ not (stand (is_storable k ∷ []) o && takes_slots slot l o)
-stores-breaks k None next l o = ap not (and-false (stand (is_storable k ∷ []) o))
+stores-breaks k None next l o = ap not (sym (and-false (stand (is_storable k ∷ []) o)))
 stores-breaks k (Some slot) next l [] = refl
 stores-breaks k (Some slot) next l (v ∷ o) =
     choice-breaks (is_storable k v && has_slots l slot v) next (local_stored l slot v) l o (v ∷ o)
-    ∙ ap not (alone (is_storable k v) (has_slots l slot v))
+    ∙ ap (λ b. not (b && has_slots l slot v)) (sym (and-true (is_storable k v)))
 
 increments-breaks : (x : Option (ℕ × ℤ)) (next : ℕ) (l : Locals) (o : Operands)
     → breaks (increments x next l o) ≡ not (reads int (option_map (λ p. p.0) x) l)

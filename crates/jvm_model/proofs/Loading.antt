@@ -1,3 +1,4 @@
+pub mod LoadKept
 pub mod LoadsAgain
 pub mod LoadedMoves
 pub mod Library

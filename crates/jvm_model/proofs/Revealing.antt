@@ -1,6 +1,5 @@
 pub mod CalleePlaces
 pub mod Callees
-pub mod IdleRules
 pub mod Growing
 pub mod CalledSteps
 pub mod CalledRuns

@@ -2,6 +2,7 @@ pub mod SoundClasses
 pub mod SoundKinds
 pub mod SoundObjects
 pub mod SoundRules
+pub mod IdleRules
 pub mod SoundAttempts
 pub mod SoundLines
 pub mod SoundRuns

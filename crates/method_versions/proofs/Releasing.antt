@@ -5,6 +5,7 @@ use Rattle.std.specs.List.{list_all}
 use Rattle.std.specs.Option.{IfSome, option_map}
 use Rattle.std.proofs.lemmas.Bool.{eqb-true, eq-eqb, ne_eqb, false≢true}
 use Rattle.std.proofs.lemmas.List.Folds.{list_any-append}
+use Rattle.std.proofs.Math.Bool.{and-false}
 use Rattle.frame_stack.specs.FrameLists.{PlacedFrame, pins_of}
 use Rattle.method_versions.specs.declared.versions.Held.{Held}
 use Rattle.method_versions.specs.Tables.{AreCurrent, held_but, held_in, is_listed, is_number, is_old, is_superseded_in, method_in}
@@ -73,10 +74,6 @@ listed-filter f (x ∷ xs) k = by (listed-filter f xs k) (f x) refl (x == k) ref
     where
       none : f k ≡ false
       none = ap f (sym (eqb-true x k d)) ∙ e
-
-      and-false : (z : Bool) → (z && false) ≡ false
-      and-false true = refl
-      and-false false = refl
   by rest false e false d =
       ap (λ z. any (if z then x ∷ filter f xs else filter f xs)) e ∙ (rest ∙ sym (ap (λ z. (z || any xs) && f k) d))
 

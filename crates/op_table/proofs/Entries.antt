@@ -1,7 +1,8 @@
 -- What the checker computes over the whole tables, and what it says at each entry.
-use Rattle.std.proofs.Common.{◌≡◌, ℕ, ◌<◌, ◌≤◌, Bool, true, false, not, cond, ◌||◌, ◌↔◌, map, length, get_or, Some, sym, ◌∙◌, subst, refl, arith}
+use Rattle.std.proofs.Common.{◌≡◌, ℕ, ◌<◌, ◌≤◌, Bool, true, false, ◌||◌, ◌↔◌, map, length, get_or, Some, sym, ◌∙◌, subst, refl, arith}
 use Rattle.std.specs.Prelude.{slice_get, nat_le, ◌==◌, IsTrue}
-use Rattle.std.specs.Bool.{Decides}
+use Rattle.std.specs.Bool.{Decides, beq}
+use Rattle.std.specs.Cmp.{booleans_Decides}
 use Rattle.std.specs.Int.{is_in_range, IsInRange}
 use Rattle.std.specs.List.{list_all, range_with_len}
 use Rattle.std.proofs.lemmas.Bool.{false≢true}
@@ -40,16 +41,8 @@ wide_row_at op r h = entry_of wide_row_of 256 op r (subst (λ rows. slice_get ro
 
 -- ---- facts over the whole tables
 
--- b and c are the same
-abbrev same : Bool → Bool → Bool
-same b c = cond b c (not c)
-
-equal_from_same : (b c : Bool) → same b c ≡ true → b ≡ c
-equal_from_same true c h = sym h
-equal_from_same false true h = h
-equal_from_same false false h = refl
-
-holds_below : (p : ℕ → Bool) (n k : ℕ) → list_all p (range_with_len 0 n) ≡ true → k < n → p k ≡ true
+-- what was computed of all holds of each
+pub holds_below : (p : ℕ → Bool) (n k : ℕ) → list_all p (range_with_len 0 n) ≡ true → k < n → p k ≡ true
 holds_below p n k e h =
     let within : k < length (range_with_len 0 n) = subst (λ m. k < m) (sym (length-range_with_len 0 n)) h in
     let here : get_or (range_with_len 0 n) k 0 ≡ k = get_or-range_with_len 0 n k 0 h ∙ omega arith in
@@ -84,27 +77,27 @@ Decides-never_goes_on op =
     (Decides-or (is_in_range 169 177 op) _ (Decides-is_in_range 169 177 op)
     (Decides-or (op == 191) (op == 200) (Decides-eqb op 191) (Decides-eqb op 200)))
 
-returns_fit : list_all (λ op. same (row_of op).returns (is_in_range 172 177 op)) (range_with_len 0 256) ≡ true
+returns_fit : list_all (λ op. beq (row_of op).returns (is_in_range 172 177 op)) (range_with_len 0 256) ≡ true
 unfolding row_of groups
 returns_fit = refl
 
-none_returns : list_all (λ op. same (wide_row_of op).returns false) (range_with_len 0 256) ≡ true
+none_returns : list_all (λ op. beq (wide_row_of op).returns false) (range_with_len 0 256) ≡ true
 unfolding wide_row_of wide_groups
 none_returns = refl
 
-sizes_fit : list_all (λ op. same ((row_of op).size == 0) (has_no_fixed_size (row_of op).form)) (range_with_len 0 256) ≡ true
+sizes_fit : list_all (λ op. beq ((row_of op).size == 0) (has_no_fixed_size (row_of op).form)) (range_with_len 0 256) ≡ true
 unfolding row_of groups
 sizes_fit = refl
 
-ends_fit : list_all (λ op. same (row_of op).ends (never_goes_on op)) (range_with_len 0 256) ≡ true
+ends_fit : list_all (λ op. beq (row_of op).ends (never_goes_on op)) (range_with_len 0 256) ≡ true
 unfolding row_of groups
 ends_fit = refl
 
-wide_sizes_fit : list_all (λ op. same ((wide_row_of op).size == 0) (has_no_fixed_size (wide_row_of op).form)) (range_with_len 0 256) ≡ true
+wide_sizes_fit : list_all (λ op. beq ((wide_row_of op).size == 0) (has_no_fixed_size (wide_row_of op).form)) (range_with_len 0 256) ≡ true
 unfolding wide_row_of wide_groups
 wide_sizes_fit = refl
 
-wide_ends_fit : list_all (λ op. same (wide_row_of op).ends (op == 169)) (range_with_len 0 256) ≡ true
+wide_ends_fit : list_all (λ op. beq (wide_row_of op).ends (op == 169)) (range_with_len 0 256) ≡ true
 unfolding wide_row_of wide_groups
 wide_ends_fit = refl
 
@@ -113,14 +106,14 @@ wide_ends_fit = refl
 iff_from_decides : {P Q : Type 0} (b c : Bool) → b ≡ c → Decides b P → Decides c Q → P ↔ Q
 iff_from_decides b c e p q = (λ h. q.0 (sym e ∙ p.1 h), λ h. p.0 (e ∙ q.1 h))
 
-sizeless_at : (f : ℕ → OpRow) (op : ℕ) → list_all (λ k. same ((f k).size == 0) (has_no_fixed_size (f k).form)) (range_with_len 0 256) ≡ true → op < 256 → ((f op).size ≡ 0) ↔ HasNoFixedSize (f op).form
+sizeless_at : (f : ℕ → OpRow) (op : ℕ) → list_all (λ k. beq ((f k).size == 0) (has_no_fixed_size (f k).form)) (range_with_len 0 256) ≡ true → op < 256 → ((f op).size ≡ 0) ↔ HasNoFixedSize (f op).form
 sizeless_at f op e h =
-    let agree = equal_from_same _ _ (holds_below (λ k. same ((f k).size == 0) (has_no_fixed_size (f k).form)) 256 op e h) in
+    let agree = (booleans_Decides _ _).0 (holds_below (λ k. beq ((f k).size == 0) (has_no_fixed_size (f k).form)) 256 op e h) in
     iff_from_decides _ _ agree (Decides-eqb (f op).size 0) (Decides-has_no_fixed_size (f op).form)
 
-ending_at : (f : ℕ → OpRow) (test : ℕ → Bool) (P : ℕ → Type 0) (op : ℕ) → list_all (λ k. same (f k).ends (test k)) (range_with_len 0 256) ≡ true → Decides (test op) (P op) → op < 256 → IsTrue (f op).ends ↔ P op
+ending_at : (f : ℕ → OpRow) (test : ℕ → Bool) (P : ℕ → Type 0) (op : ℕ) → list_all (λ k. beq (f k).ends (test k)) (range_with_len 0 256) ≡ true → Decides (test op) (P op) → op < 256 → IsTrue (f op).ends ↔ P op
 ending_at f test P op e d h =
-    let agree = equal_from_same _ _ (holds_below (λ k. same (f k).ends (test k)) 256 op e h) in
+    let agree = (booleans_Decides _ _).0 (holds_below (λ k. beq (f k).ends (test k)) 256 op e h) in
     iff_from_decides (f op).ends (test op) agree (λ t. t, λ t. t) d
 
 pub row_of-sizeless : (op : ℕ) → op < 256 → ((row_of op).size ≡ 0) ↔ HasNoFixedSize (row_of op).form
@@ -137,8 +130,8 @@ wide_row_of-ending op h = ending_at wide_row_of (λ k. k == 169) (λ k. k ≡ 16
 
 pub row_of-returning : (op : ℕ) → op < 256 → IsTrue (row_of op).returns ↔ IsReturn op
 row_of-returning op h =
-    let agree = equal_from_same _ _ (holds_below (λ k. same (row_of k).returns (is_in_range 172 177 k)) 256 op returns_fit h) in
+    let agree = (booleans_Decides _ _).0 (holds_below (λ k. beq (row_of k).returns (is_in_range 172 177 k)) 256 op returns_fit h) in
     iff_from_decides (row_of op).returns (is_in_range 172 177 op) agree (λ t. t, λ t. t) (Decides-is_in_range 172 177 op)
 
 pub wide_row_of-staying : (op : ℕ) → op < 256 → (wide_row_of op).returns ≡ false
-wide_row_of-staying op h = equal_from_same _ _ (holds_below (λ k. same (wide_row_of k).returns false) 256 op none_returns h)
+wide_row_of-staying op h = (booleans_Decides _ _).0 (holds_below (λ k. beq (wide_row_of k).returns false) 256 op none_returns h)

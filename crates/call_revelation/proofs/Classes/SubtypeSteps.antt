@@ -3,7 +3,7 @@ use Rattle.std.proofs.Common.{◌≡◌, ℕ, zero, suc, ◌<◌, ◌≤◌, Boo
 use Rattle.std.specs.Prelude.{flat_map, filter_map, Option, Some, None, ◌==◌, ◌||◌, ◌⊎◌}
 use Rattle.std.specs.List.{cons_option}
 use Rattle.std.specs.Option.{option_and_then, option_map_or, option_to_list}
-use Rattle.std.proofs.lemmas.Option.{slice_get_within, none-some}
+use Rattle.std.proofs.lemmas.Option.{none-some, slice_get_within}
 use Rattle.std.proofs.lemmas.Bool.{false≢true, or_cases, or_left, or_right, eqb-true}
 use Rattle.std.proofs.lemmas.List.{append_assoc}
 use Rattle.const_pool.specs.declared.class.ClassFile.{ClassFile}
@@ -100,9 +100,6 @@ module _ (p : Program) where
 
   then-within : (o : Option (List ℕ)) (k : ℕ) → option_and_then (class_named p) o ≡ Some k → k < length p.classes
   then-within None k e = absurd (none-some k e)
-    where
-      none-some : (x : ℕ) → None ≡ Some x → ⊥
-      none-some x e = cc
   then-within (Some name) k e = named-within name k e
 
   pub direct-within : (class d : ℕ) → is_among d (direct p class) ≡ true → d < length p.classes

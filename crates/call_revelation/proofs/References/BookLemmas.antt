@@ -5,6 +5,7 @@ use Rattle.std.specs.List.{list_any}
 use Rattle.std.specs.Option.{option_flatten, option_map_or}
 use Rattle.std.proofs.lemmas.Option.{none-some, same_Some}
 use Rattle.std.proofs.lemmas.Bool.{and_from, or_left, or_right, eqb-true}
+use Rattle.std.proofs.Math.Bool.{or_assoc}
 use Rattle.jf_bytes.proofs.Tests.{equals_itself}
 use Rattle.jf_bytes.proofs.Lists.{slice_get-set_same}
 use Rattle.jvm_model.specs.declared.program.Program.{Program}
@@ -15,7 +16,6 @@ use Rattle.jvm_model.specs.Profiling.Targets.{operations_of}
 use Rattle.jvm_model.proofs.Soundness.SoundKinds.{named-class}
 use Rattle.jvm_model.specs.declared.instruction.SymbolicReference.{SymbolicReference}
 use Rattle.possible_callees.specs.Tables.{list_at, with_item}
-use Rattle.possible_callees.proofs.Truths.{or-assoc}
 use Rattle.possible_callees.proofs.Classes.LineageLemmas.{below-or-past}
 use Rattle.possible_callees.proofs.Numbers.TableLemmas.{at-other, at-same, length-with, nothing_past, set-length, set-other}
 use Rattle.call_revelation.specs.declared.uses.Use.{Use}
@@ -23,7 +23,7 @@ use Rattle.call_revelation.specs.Books.{Codes, HasMore, IsBook, IsListed, code_a
 
 any-append : {A : Type 0} (test : A → Bool) (xs ys : List A) → list_any test (xs ++ ys) ≡ (list_any test xs || list_any test ys)
 any-append test [] ys = refl
-any-append test (x ∷ xs) ys = ap (λ b. test x || b) (any-append test xs ys) ∙ sym (or-assoc (test x) (list_any test xs) (list_any test ys))
+any-append test (x ∷ xs) ys = ap (λ b. test x || b) (any-append test xs ys) ∙ sym (or_assoc (test x) (list_any test xs) (list_any test ys))
 
 -- ---- one more in a list
 

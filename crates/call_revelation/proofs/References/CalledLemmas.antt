@@ -3,6 +3,7 @@ use Rattle.std.proofs.Common.{◌≡◌, ℕ, ◌<◌, Bool, true, false, List, 
 use Rattle.std.specs.Prelude.{flat_map, replicate, slice_set, unwrap_or, Option, ◌==◌, ◌||◌, ◌⊎◌, if◌then◌else◌}
 use Rattle.std.specs.Option.{option_to_list}
 use Rattle.std.proofs.lemmas.Bool.{false≢true, or_cases, or_left, or_right, eqb-true}
+use Rattle.std.proofs.Math.Bool.{or-false}
 use Rattle.jf_bytes.proofs.Tests.{equals_itself}
 use Rattle.jf_bytes.proofs.Lists.{slice_get-set_same}
 use Rattle.jvm_model.specs.declared.program.Program.{Program}
@@ -19,7 +20,6 @@ use Rattle.class_index.specs.Orders.{with_class}
 use Rattle.possible_callees.specs.declared.lineage.Lineage.{Lineage}
 use Rattle.possible_callees.specs.Lineages.{IsClosed, IsLineage, IsNoted, direct, class_noted}
 use Rattle.possible_callees.specs.Tables.{list_at}
-use Rattle.possible_callees.proofs.Truths.{or-false}
 use Rattle.possible_callees.proofs.Numbers.Adding.{among-with, to_flat}
 use Rattle.possible_callees.proofs.Classes.LineageLemmas.{loaded-before, noted-there, nothing-noted}
 use Rattle.possible_callees.proofs.Numbers.TableLemmas.{set-length, set-other}

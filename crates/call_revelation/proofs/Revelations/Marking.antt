@@ -3,6 +3,7 @@ use Rattle.std.proofs.Common.{◌≡◌, ℕ, ◌<◌, Bool, true, false, List, 
 use Rattle.std.specs.Prelude.{Option, Some, None, is_some, not, slice_set, unwrap_or, ◌==◌, ◌||◌, ◌&&◌}
 use Rattle.std.specs.Option.{option_map_or}
 use Rattle.std.proofs.lemmas.Bool.{false≢true, or_cases, or_left, or_parts, eqb-true}
+use Rattle.std.proofs.Math.Bool.{and-true, or-false}
 use Rattle.jf_bytes.proofs.Lists.{slice_get-set_same}
 use Rattle.jvm_model.specs.declared.program.MethodPlace.{MethodPlace}
 use Rattle.jvm_model.specs.declared.program.Program.{Program}
@@ -17,7 +18,6 @@ use Rattle.class_linker.specs.Linkers.{IsLoaded, LinkerView}
 use Rattle.possible_callees.specs.declared.lineage.Lineage.{Lineage}
 use Rattle.possible_callees.specs.Lineages.{IsLineage}
 use Rattle.possible_callees.specs.Tables.{Adds, IsPrefix, list_at}
-use Rattle.possible_callees.proofs.Truths.{or-false}
 use Rattle.possible_callees.proofs.Numbers.Adding.{among-filter, among-with}
 use Rattle.possible_callees.proofs.Numbers.TableLemmas.{set-length, set-other}
 use Rattle.possible_callees.proofs.Numbers.Fronts.{front-among}
@@ -280,10 +280,6 @@ reselected p r is selected stale same = record {
 pub among-others : (method m : ℕ) (methods : List ℕ) → (m == method) ≡ false → is_among m (without_method method methods) ≡ is_among m methods
 among-others method m methods other =
     among-filter (λ x. not (x == method)) methods m ∙ (ap (λ b. is_among m methods && not b) other ∙ and-true (is_among m methods))
-  where
-    and-true : (a : Bool) → (a && true) ≡ a
-    and-true true = refl
-    and-true false = refl
 
 pub selected-more : (p : Program) (r : Reveal) → IsRevelation p r → (method : ℕ) (selected stale : List ℕ) → stale ≡ with_class r.stale method
     → ((m : ℕ) → (m == method) ≡ false → is_among m selected ≡ is_among m r.selected) → IsRevelation p (record r { selected = selected; stale = stale })

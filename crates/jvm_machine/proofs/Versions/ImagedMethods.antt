@@ -5,7 +5,7 @@ use Rattle.std.specs.List.{AllByRecursion}
 use Rattle.std.specs.List.Sorted.{IsStrictlyIncreasing}
 use Rattle.std.specs.Option.{IfSome, option_flatten}
 use Rattle.std.proofs.lemmas.Option.{none-some, same_Some}
-use Rattle.jf_bytes.proofs.Options.{and_then_parts}
+use Rattle.jf_bytes.proofs.Options.{and_then_parts, is_some_parts}
 use Rattle.jf_bytes.proofs.Lists.{each_at}
 use Rattle.const_pool.specs.declared.class.ClassFile.{ClassFile}
 use Rattle.const_pool.specs.declared.class.CodeAttribute.{CodeAttribute}
@@ -149,14 +149,10 @@ first-named (c ∷ pool) more e =
 
 catch-named : (c image : ClassFile) → IsClassFile c → StaysLike c image → (h : Handler) → IsHandler c.pool h → NamesClass c image h
 catch-named c image formed stays h is = ap (λ pool. named_class pool h.catch_class) stays.pool ∙ by is.class where
-  some-is : {A : Type 0} (o : Option A) → is_some o ≡ true → (x : A) × (o ≡ Some x)
-  some-is None e = absurd (let f : false ≡ true = e in cc)
-  some-is (Some x) e = (x, refl)
-
   by : (h.catch_class ≡ 0) ⊎ Names is_class c.pool h.catch_class → named_class (c.pool ++ stays.more) h.catch_class ≡ named_class c.pool h.catch_class
   by (inl none) = ap (named_class (c.pool ++ stays.more)) none ∙ (first-named c.pool stays.more formed.pool.first ∙ ap (named_class c.pool) (sym none))
   by (inr named) =
-      let there = some-is (named_class c.pool h.catch_class) (named-there c.pool (have-texts c.pool formed.pool) h.catch_class named) in
+      let there = is_some_parts (named_class c.pool h.catch_class) (named-there c.pool (have-texts c.pool formed.pool) h.catch_class named) in
       named_class-more c.pool stays.more h.catch_class there.0 there.1 ∙ sym there.1
 
 catches-named : (c image : ClassFile) → IsClassFile c → StaysLike c image → (hs : List Handler) → AllByRecursion (IsHandler c.pool) hs → AllByRecursion (NamesClass c image) hs

@@ -6,7 +6,7 @@ use Rattle.std.specs.List.{AllByRecursion, list_any}
 use Rattle.std.specs.Option.{option_map_or}
 use Rattle.std.proofs.lemmas.Bool.{cond-true, ne_eqb, eq-eqb, cases_eq, false≢true, or_right, lt-leb, le-leb, leb-true, leb-false as below}
 use Rattle.std.proofs.lemmas.List.{append-nil, append_assoc, length_push}
-use Rattle.std.proofs.lemmas.Option.{slice_get_within, same_Some}
+use Rattle.std.proofs.lemmas.Option.{none-some, same_Some, slice_get_within}
 use Rattle.jf_bytes.proofs.Tests.{equals_itself}
 use Rattle.jvm_model.specs.declared.event.Act.{Act}
 use Rattle.jvm_model.specs.declared.event.Mark.{Mark}
@@ -319,10 +319,7 @@ old-same acts activations number a found = record { before = a; found = found; m
 
 old-set : (acts : List Act) (activations : List Activation) (at : ℕ) (ended : Activation) (step : ℕ) → slice_get activations at ≡ Some ended
     → (number : ℕ) (a : Activation) → slice_get (slice_set activations at (ended_in step ended)) number ≡ Some a → IsOld acts activations number a
-old-set acts [] at ended step there number a found = absurd (none-some found)
-  where
-    none-some : None ≡ Some a → ⊥
-    none-some e = cc
+old-set acts [] at ended step there number a found = absurd (none-some a found)
 old-set acts (b ∷ rest) zero ended step there zero a found =
     let same : ended_in step ended ≡ a = same_Some (ended_in step ended) a found in
     let was : b ≡ ended = same_Some b ended there in

@@ -104,7 +104,8 @@ passes-more : (p : Const → Bool) (old new : Option Const) → ((c : Const) →
 passes-more p None new keeps e = absurd cc
 passes-more p (Some c) new keeps e = ap (λ o. option_map_or p o false) (keeps c refl) ∙ e
 
-chosen_by : {A : Type 0} (b : Bool) (o : Option A) (x : A) → cond b o None ≡ Some x → (b ≡ true) × (o ≡ Some x)
+-- a choice that came out with something was made
+pub chosen_by : {A : Type 0} (b : Bool) (o : Option A) (x : A) → cond b o None ≡ Some x → (b ≡ true) × (o ≡ Some x)
 chosen_by true o x e = (refl, e)
 chosen_by false o x e = absurd (none-some x e)
 

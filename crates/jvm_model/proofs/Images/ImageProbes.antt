@@ -5,7 +5,6 @@ use Rattle.std.specs.Prelude.{codes, ◌==◌, ◌&&◌, not}
 use Rattle.std.specs.Option.{option_map, option_and_then}
 use Rattle.std.specs.Int.{w16, cast_signed, cast_unsigned}
 use Rattle.std.proofs.lemmas.Int.{of_z-to_z}
-use Rattle.std.proofs.lemmas.Option.{none-some}
 use Rattle.const_pool.specs.declared.class.ClassFile.{ClassFile}
 use Rattle.std.proofs.lemmas.Slice.Eq.{bytes_eq-Decides}
 use Rattle.std.proofs.lemmas.Bool.{not-true, and_parts}
@@ -37,6 +36,7 @@ use Rattle.jvm_model.specs.Small.SmallClass.{begins_with, is_free_name}
 use Rattle.jvm_model.specs.declared.operation.Resolved.{Resolved}
 use Rattle.jvm_model.specs.declared.operation.Resolved.TheVariants as resolved
 use Rattle.jvm_model.proofs.Running.Opcodes.{named_by-is}
+use Rattle.jvm_model.proofs.Images.ImagePools.{chosen_by}
 
 -- ---- the bytes of a probe
 
@@ -123,11 +123,7 @@ called-own : (image : ClassFile) (r : Reference) (own : List ℕ) (k : ℕ) → 
 called-own image r own k named e =
     let test : cond (same_text r.class own) (method_named image r.member) None ≡ Some k =
     ap (option_and_then (λ own. cond (same_text r.class own) (method_named image r.member) None)) (sym named) ∙ e in
-    same_text-true r.class own (chosen_true (same_text r.class own) (method_named image r.member) k test)
-  where
-    chosen_true : (b : Bool) (x : Option ℕ) (k : ℕ) → cond b x None ≡ Some k → b ≡ true
-    chosen_true true x k e = refl
-    chosen_true false x k e = absurd (none-some k e)
+    same_text-true r.class own (chosen_by (same_text r.class own) (method_named image r.member) k test).0
 
 invokestatic-elsewhere : family_of 184 ≡ family.NotLocal
 unfolding family_of rows

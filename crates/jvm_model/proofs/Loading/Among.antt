@@ -5,6 +5,13 @@ use Rattle.std.proofs.lemmas.Bool.{or_left, or_right}
 use Rattle.jf_bytes.proofs.Tests.{equals_itself}
 use Rattle.jvm_model.specs.Classes.Load.{is_among}
 
+-- of four tests, the two in the middle change places
+pub or-exchanged : (a b c d : Bool) → ((a || b) || (c || d)) ≡ ((a || c) || (b || d))
+or-exchanged true b c d = refl
+or-exchanged false true true d = refl
+or-exchanged false true false d = refl
+or-exchanged false false c d = refl
+
 pub among-append : (x : ℕ) (xs ys : List ℕ) → is_among x (xs ++ ys) ≡ (is_among x xs || is_among x ys)
 among-append x [] ys = refl
 among-append x (y ∷ xs) ys = by (x == y) (among-append x xs ys)

@@ -1,9 +1,9 @@
 -- Classes are loaded once, and behind what stands above them: in each list of loaded classes of a run (JVM
 -- Specification 5.3).
-use Rattle.std.proofs.Common.{◌≡◌, ℕ, zero, suc, ◌+◌, ◌<◌, ◌≤◌, Bool, true, false, List, [], ◌∷◌, ◌++◌, length, ap, sym, subst, refl, ◌∙◌, eqb-true, arith}
+use Rattle.std.proofs.Common.{◌≡◌, ℕ, zero, suc, ◌+◌, ◌<◌, ◌≤◌, Bool, true, false, List, [], ◌∷◌, ◌++◌, length, ap, sym, subst, refl, ◌∙◌, arith}
 use Rattle.std.proofs.lemmas.Bool.{ne_eqb, false≢true}
 use Rattle.std.proofs.lemmas.List.{append-nil, append_assoc}
-use Rattle.std.specs.Prelude.{Option, Some, None, ◌==◌, ◌||◌, if◌then◌else◌}
+use Rattle.std.specs.Prelude.{Option, Some, None, ◌||◌, if◌then◌else◌}
 use Rattle.std.specs.List.{AllByRecursion}
 use Rattle.const_pool.specs.declared.class.ClassFile.{ClassFile}
 use Rattle.jvm_model.specs.Basis.Data.{Program, World}
@@ -16,90 +16,8 @@ use Rattle.jvm_model.specs.Basis.SharedState.{built_in_from}
 use Rattle.jvm_model.specs.Soundness.Sound.{HasSupertypes}
 use Rattle.jvm_model.proofs.Soundness.Ranked.{AreInOrder}
 use Rattle.jvm_model.proofs.Soundness.SoundClasses.{AreLoads, HasLoaded, named-load, needs-load, one-more}
-use Rattle.jvm_model.proofs.Loading.Among.{among-append, among-front}
-
--- ---- what holds of the loaded classes and is kept by one more that is not on the path holds at the end
-
-module _ (p : Program) (P : List ℕ → Type 0) (first : List ℕ)
-    (one_more : (loaded : List ℕ) (class : ℕ) → is_among class first ≡ false → P loaded → P (loaded ++ class ∷ [])) where
-  unless_kept : (o : Option Fault) (loaded : List ℕ) (next : List ℕ → Loading) → P loaded → ((l : List ℕ) → P l → P (next l).loaded)
-      → P (unless o loaded next).loaded
-  unless_kept None loaded next h k = k loaded h
-  unless_kept (Some fault) loaded next h k = h
-
-  pub needs_kept : (load : List ℕ → List ℕ → Loading) → ((name loaded : List ℕ) → P loaded → P (load name loaded).loaded)
-      → (needs : List Need) (loaded : List ℕ) → P loaded → P (load_needs p load needs loaded).loaded
-  needs_kept load k [] loaded h = h
-  needs_kept load k (n ∷ rest) loaded h =
-      unless_kept (load n.name loaded).fault (load n.name loaded).loaded (λ after. unless (need_fault p n) after (load_needs p load rest)) (k n.name loaded h)
-      (λ l g. unless_kept (need_fault p n) l (load_needs p load rest) g (needs_kept load k rest))
-
-  behind_kept : (class : ℕ) (l : Loading) → is_among class first ≡ false → P l.loaded → P (behind_needs class l).loaded
-  behind_kept class l other h = unless_kept l.fault l.loaded (λ loaded. loading_done (loaded ++ class ∷ [])) h (λ loaded g. one_more loaded class other g)
-
-  -- the path has the first classes
-  Begins : List ℕ → Type 0
-  Begins path = (class : ℕ) → is_among class path ≡ false → is_among class first ≡ false
-
-  class_kept : (path name loaded : List ℕ) (fresh : ℕ → Loading) (o : Option ℕ) → P loaded
-      → ((class : ℕ) → is_among class path ≡ false → P (fresh class).loaded)
-      → P (by_load_state (load_state_of path loaded o) name loaded fresh).loaded
-  class_kept path name loaded fresh None h k = h
-  class_kept path name loaded fresh (Some class) h k = by (is_among class loaded) (is_among class path) refl
-    where
-      by : (a b : Bool) → is_among class path ≡ b
-          → P (by_load_state (if a then There else if b then Begun else Unloaded class) name loaded fresh).loaded
-      by true b e = h
-      by false true e = h
-      by false false e = k class e
-
-  element_kept : (loaded : List ℕ) (load : List ℕ → Loading) (e : Element) → P loaded → ((name : List ℕ) → P (load name).loaded)
-      → P (load_element e loaded load).loaded
-  element_kept loaded load (Primitive code) h k = h
-  element_kept loaded load (Named name) h k = k name
-
-  longer : (path : List ℕ) (class : ℕ) → ((c : ℕ) → is_among c path ≡ false → is_among c first ≡ false)
-      → (c : ℕ) → is_among c (path ++ class ∷ []) ≡ false → is_among c first ≡ false
-  longer path class begins c out = begins c (by (is_among c path) refl)
-    where
-      by : (b : Bool) → is_among c path ≡ b → is_among c path ≡ false
-      by false e = e
-      by true e = absurd (false≢true (sym out ∙ among-front c path (class ∷ []) e))
-
-  pub named_kept : (depth : ℕ) (path : List ℕ) → ((c : ℕ) → is_among c path ≡ false → is_among c first ≡ false)
-      → (name loaded : List ℕ) → P loaded → P (load_named p depth path name loaded).loaded
-  named_kept zero path begins name loaded h = h
-  named_kept (suc n) path begins name loaded h =
-      let within : ℕ → List ℕ → List ℕ → Loading = λ class. load_named p n (path ++ class ∷ []) in
-      let fresh : ℕ → Loading = λ class. behind_needs class (load_needs p (within class) (needs_of p class) loaded) in
-      element_kept loaded (λ class_name. by_load_state (load_state_of path loaded (class_named p class_name)) class_name loaded fresh) (meaning_of name).element h
-      (λ class_name. class_kept path class_name loaded fresh (class_named p class_name) h
-      (λ class out. behind_kept class (load_needs p (within class) (needs_of p class) loaded) (begins class out)
-      (needs_kept (within class) (named_kept n (path ++ class ∷ []) (longer path class begins)) (needs_of p class) loaded h)))
-
--- ---- what is being loaded is not loaded
-
-module _ (p : Program) (c : ℕ) where
-  -- one more that is not the class
-  not_more : (l : List ℕ) (class : ℕ) → is_among class (c ∷ []) ≡ false → is_among c l ≡ false → is_among c (l ++ class ∷ []) ≡ false
-  not_more l class other g = among-append c l (class ∷ []) ∙ (ap (λ b. b || ((c == class) || false)) g ∙ ap (λ b. b || false) (apart (class == c) refl other))
-    where
-      apart : (b : Bool) → (class == c) ≡ b → (b || false) ≡ false → (c == class) ≡ false
-      apart true e h = absurd (false≢true (sym h))
-      apart false e h = grind (arith)
-
-  on_path : (path : List ℕ) → is_among c path ≡ true → (class : ℕ) → is_among class path ≡ false → is_among class (c ∷ []) ≡ false
-  on_path path has class out = by (class == c) refl
-    where
-      by : (b : Bool) → (class == c) ≡ b → (b || false) ≡ false
-      by true e = absurd (false≢true (sym out ∙ (ap (λ k. is_among k path) (eqb-true class c e) ∙ has)))
-      by false e = refl
-
-  pub not_loaded : (depth : ℕ) (path : List ℕ) (needs : List Need) (loaded : List ℕ) → is_among c path ≡ true → is_among c loaded ≡ false
-      → is_among c (load_needs p (load_named p depth path) needs loaded).loaded ≡ false
-  not_loaded depth path needs loaded has h =
-      needs_kept p (λ l. is_among c l ≡ false) (c ∷ []) not_more (load_named p depth path)
-      (named_kept p (λ l. is_among c l ≡ false) (c ∷ []) not_more depth path (on_path path has)) needs loaded h
+use Rattle.jvm_model.proofs.Loading.Among.{among-last}
+use Rattle.jvm_model.proofs.Loading.LoadKept.{not_loaded}
 
 -- ---- what is kept by one more that is not loaded, behind what it needs
 
@@ -125,13 +43,6 @@ module _ (p : Program) (P : List ℕ → Type 0)
       by true b e = h
       by false true e = h
       by false false e = k class e
-
-  among-last : (class : ℕ) (xs : List ℕ) → is_among class (xs ++ class ∷ []) ≡ true
-  among-last class xs = among-append class xs (class ∷ []) ∙ by (is_among class xs)
-    where
-      by : (b : Bool) → (b || ((class == class) || false)) ≡ true
-      by true = refl
-      by false = grind (arith)
 
   needs_ordered : (load : List ℕ → List ℕ → Loading) → ((name loaded : List ℕ) → P loaded → P (load name loaded).loaded)
       → (needs : List Need) (loaded : List ℕ) → P loaded → P (load_needs p load needs loaded).loaded

@@ -3,8 +3,7 @@
 -- its load ended with.
 use Rattle.std.proofs.Common.{◌≡◌, ℕ, zero, suc, Bool, true, false, List, [], ◌∷◌, ◌++◌, ap, sym, refl, ◌∙◌, arith}
 use Rattle.std.proofs.Math.Seq.{drop-append_seam, drop-length}
-use Rattle.std.specs.Prelude.{length, drop, Option, Some, None, ◌==◌, ◌||◌, if◌then◌else◌}
-use Rattle.std.proofs.lemmas.Bool.{false≢true, eqb-true}
+use Rattle.std.specs.Prelude.{length, drop, Option, Some, None, if◌then◌else◌}
 use Rattle.std.proofs.lemmas.Option.{none-some}
 use Rattle.jvm_model.specs.Basis.Data.{Operands}
 use Rattle.jvm_model.specs.Running.Growth.{Extends}
@@ -14,95 +13,8 @@ use Rattle.jvm_model.specs.Instructions.SymbolicReference.{SymbolicReference, ki
 use Rattle.jvm_model.specs.Basis.Programs.{class_named}
 use Rattle.jvm_model.specs.declared.program.Program.{Program}
 use Rattle.jvm_model.proofs.Running.Growth.{Extends-appended, Extends-same, Extends-trans}
-use Rattle.jvm_model.proofs.Loading.Among.{among-append, among-front, among-last}
-
--- ---- what holds of the loaded classes, and of one class more that is not on the path, holds at the end
-
-module _ (p : Program) (P : List ℕ → Type 0) (first : List ℕ)
-    (one_more : (loaded : List ℕ) (class : ℕ) → is_among class first ≡ false → P loaded → P (loaded ++ class ∷ [])) where
-  unless-keeps : (o : Option Fault) (loaded : List ℕ) (next : List ℕ → Loading) → P loaded → ((l : List ℕ) → P l → P (next l).loaded)
-      → P (unless o loaded next).loaded
-  unless-keeps None loaded next h k = k loaded h
-  unless-keeps (Some fault) loaded next h k = h
-
-  needs-keep : (load : List ℕ → List ℕ → Loading) → ((name loaded : List ℕ) → P loaded → P (load name loaded).loaded)
-      → (needs : List Need) (loaded : List ℕ) → P loaded → P (load_needs p load needs loaded).loaded
-  needs-keep load k [] loaded h = h
-  needs-keep load k (n ∷ rest) loaded h =
-      unless-keeps (load n.name loaded).fault (load n.name loaded).loaded (λ after. unless (need_fault p n) after (load_needs p load rest)) (k n.name loaded h)
-      (λ l g. unless-keeps (need_fault p n) l (load_needs p load rest) g (needs-keep load k rest))
-
-  class-keeps : (path name loaded : List ℕ) (fresh : ℕ → Loading) (o : Option ℕ) → P loaded
-      → ((class : ℕ) → is_among class path ≡ false → P (fresh class).loaded)
-      → P (by_load_state (load_state_of path loaded o) name loaded fresh).loaded
-  class-keeps path name loaded fresh None h k = h
-  class-keeps path name loaded fresh (Some class) h k = by (is_among class loaded) (is_among class path) refl
-    where
-      by : (a b : Bool) → is_among class path ≡ b
-          → P (by_load_state (if a then There else if b then Begun else Fresh class) name loaded fresh).loaded
-      by true b e = h
-      by false true e = h
-      by false false e = k class e
-
-  element-keeps : (loaded : List ℕ) (load : List ℕ → Loading) (e : Element) → P loaded → ((name : List ℕ) → P (load name).loaded)
-      → P (load_element e loaded load).loaded
-  element-keeps loaded load (Primitive code) h k = h
-  element-keeps loaded load (Named name) h k = k name
-
-  longer : (path : List ℕ) (class : ℕ) → ((c : ℕ) → is_among c path ≡ false → is_among c first ≡ false)
-      → (c : ℕ) → is_among c (path ++ class ∷ []) ≡ false → is_among c first ≡ false
-  longer path class begins c out = begins c (by (is_among c path) refl)
-    where
-      by : (b : Bool) → is_among c path ≡ b → is_among c path ≡ false
-      by false e = e
-      by true e = absurd (false≢true (sym out ∙ among-front c path (class ∷ []) e))
-
-  -- the path has the first classes
-  named-keeps : (depth : ℕ) (path : List ℕ) → ((c : ℕ) → is_among c path ≡ false → is_among c first ≡ false)
-      → (name loaded : List ℕ) → P loaded → P (load_named p depth path name loaded).loaded
-  named-keeps zero path begins name loaded h = h
-  named-keeps (suc n) path begins name loaded h =
-      let within : ℕ → List ℕ → List ℕ → Loading = λ class. load_named p n (path ++ class ∷ []) in
-      let fresh : ℕ → Loading = λ class. behind_needs class (load_needs p (within class) (needs_of p class) loaded) in
-      element-keeps loaded (λ class_name. by_load_state (load_state_of path loaded (class_named p class_name)) class_name loaded fresh) (meaning_of name).element h
-      (λ class_name. class-keeps path class_name loaded fresh (class_named p class_name) h
-      (λ class out. unless-keeps (load_needs p (within class) (needs_of p class) loaded).fault (load_needs p (within class) (needs_of p class) loaded).loaded
-      (λ l. loading_done (l ++ class ∷ []))
-      (needs-keep (within class) (named-keeps n (path ++ class ∷ []) (longer path class begins)) (needs_of p class) loaded h)
-      (λ l g. one_more l class (begins class out) g)))
-
--- ---- what is loaded stays, and what is being loaded is not loaded
-
-module _ (p : Program) (c : ℕ) where
-  named-stays : (depth : ℕ) (path name loaded : List ℕ) → is_among c loaded ≡ true → is_among c (load_named p depth path name loaded).loaded ≡ true
-  named-stays depth path name loaded h =
-      named-keeps p (λ l. is_among c l ≡ true) [] (λ l class out g. among-front c l (class ∷ []) g) depth path (λ class out. refl) name loaded h
-
-  needs-stay : (depth : ℕ) (path : List ℕ) (needs : List Need) (loaded : List ℕ) → is_among c loaded ≡ true
-      → is_among c (load_needs p (load_named p depth path) needs loaded).loaded ≡ true
-  needs-stay depth path needs loaded h =
-      needs-keep p (λ l. is_among c l ≡ true) [] (λ l class out g. among-front c l (class ∷ []) g) (load_named p depth path) (named-stays depth path) needs loaded h
-
-  -- one more that is another class
-  not-more : (l : List ℕ) (class : ℕ) → is_among class (c ∷ []) ≡ false → is_among c l ≡ false → is_among c (l ++ class ∷ []) ≡ false
-  not-more l class other g = among-append c l (class ∷ []) ∙ (ap (λ b. b || ((c == class) || false)) g ∙ ap (λ b. b || false) (apart (class == c) refl other))
-    where
-      apart : (b : Bool) → (class == c) ≡ b → (b || false) ≡ false → (c == class) ≡ false
-      apart true e h = absurd (false≢true (sym h))
-      apart false e h = grind (arith)
-
-  on-path : (path : List ℕ) → is_among c path ≡ true → (class : ℕ) → is_among class path ≡ false → is_among class (c ∷ []) ≡ false
-  on-path path has class out = by (class == c) refl
-    where
-      by : (b : Bool) → (class == c) ≡ b → (b || false) ≡ false
-      by true e = absurd (false≢true (sym out ∙ (ap (λ k. is_among k path) (eqb-true class c e) ∙ has)))
-      by false e = refl
-
-  not-loaded : (depth : ℕ) (path : List ℕ) (needs : List Need) (loaded : List ℕ) → is_among c path ≡ true → is_among c loaded ≡ false
-      → is_among c (load_needs p (load_named p depth path) needs loaded).loaded ≡ false
-  not-loaded depth path needs loaded has h =
-      needs-keep p (λ l. is_among c l ≡ false) (c ∷ []) not-more (load_named p depth path)
-      (named-keeps p (λ l. is_among c l ≡ false) (c ∷ []) not-more depth path (on-path path has)) needs loaded h
+use Rattle.jvm_model.proofs.Loading.Among.{among-last}
+use Rattle.jvm_model.proofs.Loading.LoadKept.{named_kept, needs_stay, not_loaded}
 
 -- ---- what was loaded without a fault loads nothing where it and more is loaded
 
@@ -243,7 +155,7 @@ module _ (p : Program) (n : ℕ) (path : List ℕ)
       by None = refl
       by (Some class) =
           class-again p path class (within p n path) (within-again class)
-          (λ l out. not-loaded p class n (path ++ class ∷ []) (needs_of p class) l (among-last class path) out)
+          (λ l out. not_loaded p class n (path ++ class ∷ []) (needs_of p class) l (among-last class path) out)
           name loaded (is_among class loaded) (is_among class path) refl refl
 
   element-again : (e : Element) (loaded : List ℕ)
@@ -259,7 +171,7 @@ named-again p (suc n) path name loaded =
     element-again p n path
     (λ class l. needs-again p (load_named p n (path ++ class ∷ [])) (named-again p n (path ++ class ∷ []))
     (λ name l after big inside e. named-there p (path ++ class ∷ []) after big inside n name l e)
-    (λ needs l c there. needs-stay p c n (path ++ class ∷ []) needs l there)
+    (λ needs l c there. needs_stay p c n (path ++ class ∷ []) needs l there)
     (needs_of p class) l)
     (meaning_of name).element loaded
 
@@ -273,7 +185,7 @@ named p loaded n = load_of p loaded (resolved_name n)
 
 load-extends : (p : Program) (loaded name : List ℕ) → Extends loaded (load_of p loaded name).loaded
 load-extends p loaded name =
-    named-keeps p (λ l. Extends loaded l) [] (λ l class out e. Extends-trans e (Extends-appended l (class ∷ []))) _ [] (λ c out. refl) name loaded (Extends-same loaded)
+    named_kept p (λ l. Extends loaded l) [] (λ l class out e. Extends-trans e (Extends-appended l (class ∷ []))) _ [] (λ c out. refl) name loaded (Extends-same loaded)
 
 extended : (before after : List ℕ) → Extends before after → before ++ drop (length before) after ≡ after
 extended before after e =

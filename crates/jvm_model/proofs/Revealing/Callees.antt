@@ -32,14 +32,14 @@ use Rattle.jvm_model.specs.Classes.Kinds.{Named, is_subkind, kind_named}
 use Rattle.jvm_model.specs.Classes.Load.{Fault, is_among, load_of}
 use Rattle.jvm_model.specs.Classes.Lookup.{MemberPlace, Resolution, Found, Fails, is_subtype, resolved_field, resolved_method}
 use Rattle.jvm_model.specs.Classes.Layouts.{layout}
-use Rattle.jvm_model.specs.Instructions.LocalRules.{pushes, replaces}
+use Rattle.jvm_model.specs.Instructions.LocalRules.{pushes, replaces, within}
 use Rattle.jvm_model.specs.Instructions.NativeRules.{kinds_in, outcome_of, runs_native, runs_number, seen_by_natives}
 use Rattle.jvm_model.specs.Instructions.SymbolicReference.{◌>>=◌, SymbolicReference, New, Getfield, Putfield, Getstatic, Putstatic, Invokevirtual, Invokespecial, Invokestatic, Invokeinterface, Checkcast, Instanceof, Anewarray, Multianewarray, LdcClass, member_found, is_null, newly_loaded, receiver, resolved_name, resolves, is_below_kind, is_instance, kind_unless, resolved_kind, unless_refused, where_fitting}
 use Rattle.jvm_model.specs.Instructions.ConstantRules.{pushes_object_of}
 use Rattle.jvm_model.specs.Running.Constants.{can_intern}
 use Rattle.jvm_model.specs.Instructions.Does.{does, loads}
 use Rattle.jvm_model.specs.Instructions.ReferenceRules.{does_named}
-use Rattle.jvm_model.specs.Instructions.ObjectRules.{Access, ToNull, ToAnother, Outside, Inside, Storing, access_to, done, fits_array, makes, array_element_of, stores_at, stores_element, storing_of}
+use Rattle.jvm_model.specs.Instructions.ObjectRules.{Access, ToNull, ToAnother, Outside, Inside, Storing, access_to, done, fits_array, makes, array_element_of, loads_element, measures, stores_at, stores_element, storing_of, throws, watches}
 use Rattle.jvm_model.specs.Basis.Programs.{number_of_method, place_of_method}
 use Rattle.jvm_model.specs.Instructions.Rules.{class_initialized, when_ready}
 use Rattle.jvm_model.specs.Classes.Selection.{is_abstract, is_static, method_selected}
@@ -47,7 +47,7 @@ use Rattle.jvm_model.specs.Basis.SharedState.{array_store, class_of, class_of_ki
 use Rattle.jvm_model.specs.Soundness.Sound.{IsFit, IsLoaded, IsSoundShared}
 use Rattle.jvm_model.proofs.Loading.LoadsAgain.{newly-loaded}
 use Rattle.jvm_model.proofs.Soundness.SoundObjects.{object-usable}
-use Rattle.jvm_model.proofs.Revealing.IdleRules.{element-sound, measures-sound, throws-sound, watches-sound, within-sound}
+use Rattle.jvm_model.proofs.Soundness.IdleRules.{idle-begins, element-idle, measures-idle, throws-idle, watches-idle, within-idle}
 use Rattle.jvm_model.specs.Soundness.Climbing.{Climbs, HasBareObject, IsDue, Begins}
 use Rattle.jvm_model.specs.Profiling.Targets.{loaded_class_named, found_where, coded_at, method_coded, initializers, selections, invoked_by, begun_on, begun_static, begun_field, where_loaded, begun_by, begun_by_operation}
 use Rattle.jvm_model.proofs.Loading.Among.{among-front, among-behind}
@@ -565,13 +565,13 @@ module _ (w : World) (fit : IsFit w.program) (s : Shared) (is : IsSoundShared w.
   store-idle ms k (Some x) l o = stores-idle ms (access_to k x.array x.index s.heap) x.array x.index x.datum l o
 
   pub does-due : (op : Operation Local) (l : Locals) (o : Operands) → loads w op s o ≡ [] → Begins p s.loaded (begun_by_operation p s.loaded op) (does w op s l o).outcome
-  does-due (Within i) l o nothing = within-sound p s.loaded [] i l o
+  does-due (Within i) l o nothing = idle-begins p s.loaded [] (within i l o) (within-idle i l o)
   does-due (operation.Named n) l o nothing = named-rule n l o (whole-by n o nothing)
-  does-due Athrow l o nothing = throws-sound p s.loaded [] w s (ref_of o)
-  does-due Monitor l o nothing = watches-sound p s.loaded [] (ref_of o) l o
+  does-due Athrow l o nothing = idle-begins p s.loaded [] (throws w s (ref_of o)) (throws-idle w s (ref_of o))
+  does-due Monitor l o nothing = idle-begins p s.loaded [] (watches (ref_of o) l o) (watches-idle (ref_of o) l o)
   does-due (Newarray kind) l o nothing = array-idle [] kind (int_of o) l o
-  does-due Arraylength l o nothing = measures-sound p s.loaded [] (ref_of o) s l o
-  does-due (LoadElement k) l o nothing = element-sound p s.loaded [] k (array_element_of o) s l o
+  does-due Arraylength l o nothing = idle-begins p s.loaded [] (measures (ref_of o) s l o) (measures-idle (ref_of o) s l o)
+  does-due (LoadElement k) l o nothing = idle-begins p s.loaded [] (loads_element k (array_element_of o) s l o) (element-idle k (array_element_of o) s l o)
   does-due (StoreElement k) l o nothing = store-idle [] k (storing_of k o) l o
   does-due (LdcString units) l o nothing =
       chosen [] (can_intern units s.heap) (done (record s { heap = with_interned (kind_for p string) units s.heap }) (GoesOn l (Ref (interned_number units s.heap) ∷ o) Next))

@@ -14,7 +14,7 @@ use Rattle.jvm_model.specs.Classes.Lookup.{MemberPlace, is_subtype, resolved_met
 use Rattle.jvm_model.specs.Classes.Selection.{is_static}
 use Rattle.jvm_model.specs.Profiling.Revelation.{Call, call_gain, call_in, call_on, calls_of, gained_by, gained_by_operation, gained_call, gained_from, gained_in, gained_named, gained_on, named_gain, symbolic_reference_in, symbolic_references_of}
 use Rattle.jvm_model.specs.Profiling.Targets.{method_coded, found_where, loaded_class_named}
-use Rattle.jvm_model.proofs.Loading.Among.{among-append}
+use Rattle.jvm_model.proofs.Loading.Among.{among-append, or-exchanged}
 
 module _ (p : Program) (loaded : List ℕ) (new : ℕ) where
   abbrev named_part : Operation Local → List ℕ
@@ -80,14 +80,8 @@ module _ (p : Program) (loaded : List ℕ) (new : ℕ) where
   turned : (m : ℕ) (a b c d : List ℕ) → is_among m ((a ++ b) ++ (c ++ d)) ≡ is_among m ((a ++ c) ++ (b ++ d))
   turned m a b c d =
       among-append m (a ++ b) (c ++ d) ∙ (ap₂ (λ x y. x || y) (among-append m a b) (among-append m c d)
-      ∙ (exchanged (is_among m a) (is_among m b) (is_among m c) (is_among m d)
+      ∙ (or-exchanged (is_among m a) (is_among m b) (is_among m c) (is_among m d)
       ∙ (sym (ap₂ (λ x y. x || y) (among-append m a c) (among-append m b d)) ∙ sym (among-append m (a ++ c) (b ++ d)))))
-    where
-      exchanged : (a b c d : Bool) → ((a || b) || (c || d)) ≡ ((a || c) || (b || d))
-      exchanged true b c d = refl
-      exchanged false true true d = refl
-      exchanged false true false d = refl
-      exchanged false false c d = refl
 
   -- What is gained by operations is gained from what is kept of them.
   pub kept-gains : (operations : List (Operation Local)) (m : ℕ)

@@ -11,6 +11,7 @@ use Rattle.jvm_model.specs.Soundness.Sound.{HasSupertypes}
 use Rattle.jvm_model.proofs.Revealing.Gained.{gained-targets, targets-gain}
 use Rattle.jvm_model.proofs.Revealing.Growing.{targets-grow}
 use Rattle.jvm_model.proofs.Events.Marked.{among-chosen}
+use Rattle.jvm_model.proofs.Loading.Among.{or-exchanged}
 use Rattle.jvm_model.specs.Profiling.Points.{Standing, methods_selected, has_class, is_target, mark_in, with_entered}
 use Rattle.jvm_model.specs.Profiling.Revelation.{gained_in}
 use Rattle.jvm_model.specs.Profiling.Targets.{targets_in}
@@ -52,16 +53,10 @@ module _ (p : Program) (code : ℕ → List (Operation Local)) where
         both-ways (is_among m (targets_in p loaded operations)) (is_among m (gained_in p loaded new operations)) (is_among m (targets_in p (loaded ++ new ∷ []) operations))
         (targets-gain p loaded new above fresh operations m) (targets-grow p loaded (new ∷ []) operations m) (gained-targets p loaded new above fresh operations m)
 
-    exchanged : (a b c d : Bool) → ((a || b) || (c || d)) ≡ ((a || c) || (b || d))
-    exchanged true b c d = refl
-    exchanged false true true d = refl
-    exchanged false true false d = refl
-    exchanged false false c d = refl
-
     -- The targets of what is entered are those before and those that are gained.
     pub load-targets : (entered : List ℕ) → is_target p code (loaded ++ new ∷ []) entered m ≡ (is_target p code loaded entered m || is_gained loaded new entered m)
     load-targets [] = refl
     load-targets (caller ∷ rest) =
         ap (λ b. b || is_target p code (loaded ++ new ∷ []) rest m) (one-caller (code caller))
         ∙ (ap (λ b. (is_among m (targets_in p loaded (code caller)) || is_among m (gained_in p loaded new (code caller))) || b) (load-targets rest)
-        ∙ exchanged (is_among m (targets_in p loaded (code caller))) (is_among m (gained_in p loaded new (code caller))) (is_target p code loaded rest m) (is_gained loaded new rest m))
+        ∙ or-exchanged (is_among m (targets_in p loaded (code caller))) (is_among m (gained_in p loaded new (code caller))) (is_target p code loaded rest m) (is_gained loaded new rest m))

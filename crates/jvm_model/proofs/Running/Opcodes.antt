@@ -115,7 +115,7 @@ all_straight_wide : all_below (straight_at true) 256 ≡ true
 unfolding family_of rows wide_row_of wide_groups
 all_straight_wide = refl
 
-or-second : (a b : Bool) → (not a || b) ≡ true → a ≡ true → b ≡ true
+pub or-second : (a b : Bool) → (not a || b) ≡ true → a ≡ true → b ≡ true
 or-second true b e is = e
 or-second false b e is = absurd cc
 

@@ -1,11 +1,12 @@
 -- What is read of a method descriptor is what the grammar says (JVM Specification 4.3.2, 4.3.3).
-use Rattle.std.proofs.Common.{◌≡◌, ◌≢◌, ◌↔◌, ℕ, zero, suc, ◌≤◌, Bool, true, false, eqb, leb, cond, List, [], ◌∷◌, ◌++◌, length, Option, Some, None, codes, refl, sym, ap, subst, ◌∙◌, append_assoc, arith}
+use Rattle.std.proofs.Common.{◌≡◌, ◌≢◌, ◌↔◌, ℕ, zero, suc, ◌≤◌, true, false, eqb, leb, List, [], ◌∷◌, ◌++◌, length, Option, Some, None, codes, refl, sym, ap, subst, ◌∙◌, append_assoc, arith}
 use Rattle.std.specs.Option.{option_and_then, option_map}
 use Rattle.std.specs.List.{AllByRecursion}
 use Rattle.std.proofs.lemmas.Bool.{eqb-true, eqb-false, ne_eqb, leb-true, le-leb}
 use Rattle.std.proofs.lemmas.List.{append-nil}
 use Rattle.std.proofs.lemmas.List.Sums.{sum_by-cons}
 use Rattle.std.proofs.lemmas.Slice.Eq.{bytes_eq-Decides}
+use Rattle.std.proofs.lemmas.Option.{same_Some}
 use Rattle.jf_bytes.proofs.Options.{map_parts, and_then_parts}
 use Rattle.const_pool.specs.declared.descriptor.Kind.{Kind}
 use Rattle.const_pool.specs.declared.descriptor.Kind.TheVariants.{Int, Long, Ref, Byte, Bool as boolean, Char, Short, Float, Double}
@@ -14,9 +15,7 @@ use Rattle.const_pool.specs.Descriptors.{IsName, IsBase, IsField, AreFields, IsR
 use Rattle.const_pool.specs.Stages.{letter_kind}
 use Rattle.const_pool.proofs.FieldTexts.{chosen, not_failed}
 use Rattle.jvm_model.specs.Basis.Descriptors.{same_text, Typed, type_parsed, array_of, name_rest, class_rest, base_front, type_front, first_type, Params, with_param, parameters_closed, params_by, params_front, only_type, result_by, result_of, shape_with, with_result, with_room, shape_of}
-
-same_of : {A : Type 0} (x y : A) → ◌≡◌ {A = Option A} (Some x) (Some y) → x ≡ y
-same_of x y e = cc
+use Rattle.jvm_model.proofs.Images.ImagePools.{chosen_by}
 
 -- ---- what is in the grammar is read
 
@@ -106,14 +105,9 @@ method_read text shape h =
 
 -- ---- what is read is in the grammar
 
--- a choice that came out with something was made
-tested : {A : Type 0} (b : Bool) (o : Option A) (y : A) → cond b o None ≡ Some y → (b ≡ true) × (o ≡ Some y)
-tested true o y e = (refl, e)
-tested false o y e = absurd cc
-
 by_letter : (unit letter : ℕ) (found kind : Kind) → IsBase (letter ∷ []) found → eqb unit letter ≡ true → ◌≡◌ {A = Option Kind} (Some found) (Some kind) → IsBase (unit ∷ []) kind
 by_letter unit letter found kind h same is =
-    subst (λ (k : Kind). IsBase (unit ∷ []) k) (same_of found kind is) (subst (λ (u : ℕ). IsBase (u ∷ []) found) (sym (eqb-true unit letter same)) h)
+    subst (λ (k : Kind). IsBase (unit ∷ []) k) (same_Some found kind is) (subst (λ (u : ℕ). IsBase (u ∷ []) found) (sym (eqb-true unit letter same)) h)
 
 letter_base : (unit : ℕ) (kind : Kind) → letter_kind unit ≡ Some kind → IsBase (unit ∷ []) kind
 letter_base unit kind e =
@@ -141,7 +135,7 @@ name_sound (unit ∷ text) rest e =
     chosen _ _ _ _ e
     (λ same is.
     let here : IsNamed (59 ∷ text) text = record { name = []; plain = tt; spelled = refl } in
-    subst (λ (u : ℕ). IsNamed (u ∷ text) rest) (sym (eqb-true unit 59 same)) (subst (IsNamed (59 ∷ text)) (same_of text rest is) here))
+    subst (λ (u : ℕ). IsNamed (u ∷ text) rest) (sym (eqb-true unit 59 same)) (subst (IsNamed (59 ∷ text)) (same_Some text rest is) here))
     (λ apart is.
     let r = name_sound text rest is in
     record { name = unit ∷ r.name; plain = (semicolon_not unit apart, r.plain); spelled = ap (λ (t : List ℕ). unit ∷ t) r.spelled })
@@ -240,9 +234,9 @@ closed_sound : (text : List ℕ) (p : Params) → parameters_closed text ≡ Som
 closed_sound [] p e = absurd cc
 closed_sound (unit ∷ rest) p e =
     let none : Params = record { kinds = []; rest = rest } in
-    let t = tested (eqb unit 41) (Some none) p e in
+    let t = chosen_by (eqb unit 41) (Some none) p e in
     let found : AreBefore (unit ∷ rest) none = record { params = []; fields = refl; spelled = ap (λ (u : ℕ). u ∷ rest) (eqb-true unit 41 t.0) } in
-    subst (AreBefore (unit ∷ rest)) (same_of none p t.1) found
+    subst (AreBefore (unit ∷ rest)) (same_Some none p t.1) found
 
 one_more : (text first : List ℕ) (kind : Kind) (rest : List ℕ) (p : Params) → IsField first kind → text ≡ first ++ rest → AreBefore rest p → AreBefore text (with_param kind p)
 one_more text first kind rest p field spelled h = record {
@@ -265,13 +259,13 @@ params_sound (suc n) text p e = params_by_sound n text p (first_type text) refl 
 
 only_sound : (text front : List ℕ) (kind : Kind) (rest : List ℕ) (result : Option Kind) → IsField front kind → text ≡ front ++ rest → only_type kind rest ≡ Some result → IsResult text result
 only_sound text front kind [] result field spelled e =
-    subst (IsResult text) (same_of (Some kind) result e) (subst (λ (t : List ℕ). IsField t kind) (sym (spelled ∙ append-nil front)) field)
+    subst (IsResult text) (same_Some (Some kind) result e) (subst (λ (t : List ℕ). IsField t kind) (sym (spelled ∙ append-nil front)) field)
 only_sound text front kind (unit ∷ rest) result field spelled e = absurd cc
 
 void_sound : (text : List ℕ) (result : Option Kind) → result_by text None ≡ Some result → IsResult text result
 void_sound text result e =
-    let t = tested (same_text text (codes "V")) (Some None) result e in
-    subst (IsResult text) (same_of None result t.1) ((bytes_eq-Decides text (codes "V")).0 t.0)
+    let t = chosen_by (same_text text (codes "V")) (Some None) result e in
+    subst (IsResult text) (same_Some None result t.1) ((bytes_eq-Decides text (codes "V")).0 t.0)
 
 result_by_sound : (text : List ℕ) (result : Option Kind) (o : Option Typed) → first_type text ≡ o → result_by text o ≡ Some result → IsResult text result
 result_by_sound text result None is e = void_sound text result e
@@ -290,18 +284,18 @@ behind_open rest p result h returned most = record {
 open_sound : (rest : List ℕ) (shape : Shape) → option_and_then with_room (option_and_then with_result (params_front 255 rest)) ≡ Some shape → IsMethod (40 ∷ rest) shape
 open_sound rest shape e =
     let room = and_then_parts with_room (option_and_then with_result (params_front 255 rest)) shape e in
-    let fits = tested (leb (slot_count room.0.params) 255) (Some room.0) shape room.2 in
+    let fits = chosen_by (leb (slot_count room.0.params) 255) (Some room.0) shape room.2 in
     let given = and_then_parts with_result (params_front 255 rest) room.0 room.1 in
     let made = map_parts (shape_with given.0.kinds) (result_of given.0.rest) room.0 given.2 in
     let kinds : given.0.kinds ≡ room.0.params = ap (λ (s : Shape). s.params) made.2 in
     let most : slot_count given.0.kinds ≤ 255 = leb-true (slot_count given.0.kinds) 255 (ap (λ (ks : List Kind). leb (slot_count ks) 255) kinds ∙ fits.0) in
     let found = behind_open rest given.0 made.0 (params_sound 255 rest given.0 given.1) (result_by_sound given.0.rest made.0 (first_type given.0.rest) refl made.1) most in
-    subst (IsMethod (40 ∷ rest)) (made.2 ∙ same_of room.0 shape fits.1) found
+    subst (IsMethod (40 ∷ rest)) (made.2 ∙ same_Some room.0 shape fits.1) found
 
 pub method_sound : (text : List ℕ) (shape : Shape) → shape_of text ≡ Some shape → IsMethod text shape
 method_sound [] shape e = absurd cc
 method_sound (unit ∷ rest) shape e =
-    let t = tested (eqb unit 40) (option_and_then with_room (option_and_then with_result (params_front 255 rest))) shape e in
+    let t = chosen_by (eqb unit 40) (option_and_then with_room (option_and_then with_result (params_front 255 rest))) shape e in
     subst (λ (u : ℕ). IsMethod (u ∷ rest) shape) (sym (eqb-true unit 40 t.0)) (open_sound rest shape t.1)
 
 -- ---- both

@@ -4,6 +4,7 @@ use Rattle.std.specs.List.{AllByRecursion}
 use Rattle.std.specs.Prelude.{◌⊎◌, replicate, Some, nat_lt, slice_get, ◌==◌, if◌then◌else◌}
 use Rattle.std.proofs.lemmas.Bool.{ltb-false, ltb-true, false≢true, or_cases, or_left, or_right, eqb-true}
 use Rattle.std.proofs.lemmas.Option.{none-some, same_Some}
+use Rattle.std.proofs.Math.Bool.{or-false}
 use Rattle.jf_bytes.proofs.Tests.{equals_itself}
 use Rattle.jvm_model.specs.declared.program.Program.{Program}
 use Rattle.jvm_model.specs.Classes.Load.{is_among}
@@ -14,7 +15,6 @@ use Rattle.class_index.specs.Orders.{with_class}
 use Rattle.possible_callees.specs.declared.lineage.Lineage.{Lineage}
 use Rattle.possible_callees.specs.Lineages.{AreFollowed, IsClosed, IsLed, IsLineage, IsNoted, LeadTo, direct, class_noted}
 use Rattle.possible_callees.specs.Tables.{Adds, IsPrefix, list_at, with_item}
-use Rattle.possible_callees.proofs.Truths.{or-false}
 use Rattle.possible_callees.proofs.Numbers.Fronts.{front-among}
 use Rattle.possible_callees.proofs.Numbers.TableLemmas.{at-other, at-same, length-with, nothing_past}
 

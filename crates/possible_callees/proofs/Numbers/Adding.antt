@@ -4,13 +4,12 @@ use Rattle.std.specs.Prelude.{filter, filter_map, flat_map, Option, Some, None, 
 use Rattle.std.specs.List.{cons_option}
 use Rattle.std.specs.Option.{option_to_list}
 use Rattle.std.proofs.lemmas.Bool.{false≢true, or_cases, or_left, or_right, eqb-true}
-use Rattle.std.proofs.Math.Bool.{or-true}
+use Rattle.std.proofs.Math.Bool.{or-false, or-true, or_assoc}
 use Rattle.jf_bytes.proofs.Tests.{equals_itself}
 use Rattle.jvm_model.specs.Classes.Load.{is_among}
 use Rattle.jvm_model.proofs.Loading.Among.{among-append}
 use Rattle.class_index.specs.Orders.{with_class, with_classes}
 use Rattle.possible_callees.specs.Tables.{Adds}
-use Rattle.possible_callees.proofs.Truths.{or-assoc, or-false}
 
 -- ---- among lists
 
@@ -72,7 +71,7 @@ adds-nothing a m = sym (or-false (is_among m a))
 
 pub adds-then : (a b c xs ys : List ℕ) → Adds a b xs → Adds b c ys → Adds a c (xs ++ ys)
 adds-then a b c xs ys first second m =
-    second m ∙ (ap (λ t. t || is_among m ys) (first m) ∙ (or-assoc (is_among m a) (is_among m xs) (is_among m ys)
+    second m ∙ (ap (λ t. t || is_among m ys) (first m) ∙ (or_assoc (is_among m a) (is_among m xs) (is_among m ys)
     ∙ ap (λ t. is_among m a || t) (sym (among-append m xs ys))))
 
 pub adds-alike : (a b xs ys : List ℕ) → ((m : ℕ) → is_among m xs ≡ is_among m ys) → Adds a b xs → Adds a b ys
@@ -92,7 +91,7 @@ among-with m a x = by (is_among x a) refl
 pub adds-all : (a xs : List ℕ) → Adds a (with_classes a xs) xs
 adds-all a [] m = sym (or-false (is_among m a))
 adds-all a (x ∷ xs) m =
-    adds-all (with_class a x) xs m ∙ (ap (λ t. t || is_among m xs) (among-with m a x) ∙ or-assoc (is_among m a) (m == x) (is_among m xs))
+    adds-all (with_class a x) xs m ∙ (ap (λ t. t || is_among m xs) (among-with m a x) ∙ or_assoc (is_among m a) (m == x) (is_among m xs))
 
 pub adds-equal : (a b xs : List ℕ) → b ≡ with_classes a xs → Adds a b xs
 adds-equal a b xs e m = ap (is_among m) e ∙ adds-all a xs m

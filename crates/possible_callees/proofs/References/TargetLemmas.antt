@@ -5,6 +5,7 @@ use Rattle.std.specs.Prelude.{flat_map, Option, Some, None, ◌==◌, ◌||◌}
 use Rattle.std.specs.List.{AllByRecursion, cons_option}
 use Rattle.std.specs.Option.{option_map_or}
 use Rattle.std.proofs.lemmas.Bool.{or_left, or_right}
+use Rattle.std.proofs.Math.Bool.{or-false, or_assoc}
 use Rattle.jf_bytes.proofs.Tests.{equals_itself}
 use Rattle.jvm_model.specs.declared.program.Program.{Program}
 use Rattle.jvm_model.specs.declared.instruction.Local.{Local}
@@ -17,7 +18,6 @@ use Rattle.jvm_model.specs.Profiling.Revelation.{symbolic_reference_in, symbolic
 use Rattle.jvm_model.specs.Profiling.Targets.{begun_by, begun_by_operation, operations_of, targets, targets_in}
 use Rattle.jvm_model.proofs.Loading.Among.{among-append}
 use Rattle.possible_callees.specs.Tables.{Adds}
-use Rattle.possible_callees.proofs.Truths.{or-assoc, or-false}
 use Rattle.possible_callees.proofs.Classes.SameLoaded.{targets-same}
 
 module _ (p : Program) (loaded : List ℕ) where
@@ -65,7 +65,7 @@ pub one-added : {A : Type 0} (f : A → List ℕ) (x : A) (rest : List A) (befor
     → (is_among m before || is_among m (flat_map f (x ∷ rest))) ≡ whole → (is_among m after || is_among m (flat_map f rest)) ≡ whole
 one-added f x rest before after m whole adds e =
     ap (λ t. t || is_among m (flat_map f rest)) (adds m)
-    ∙ (or-assoc (is_among m before) (is_among m (f x)) (is_among m (flat_map f rest))
+    ∙ (or_assoc (is_among m before) (is_among m (f x)) (is_among m (flat_map f rest))
     ∙ (ap (λ t. is_among m before || t) (sym (among-append m (f x) (flat_map f rest))) ∙ e))
 
 -- all of a list are among it

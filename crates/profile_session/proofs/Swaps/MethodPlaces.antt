@@ -2,6 +2,7 @@
 use Rattle.std.proofs.Common.{◌≡◌, ℕ, zero, suc, ◌+◌, ◌<◌, ◌≤◌, Bool, true, false, ◌&&◌, ◌==◌, List, [], ◌∷◌, ◌++◌, length, Option, Some, None, slice_get, if◌then◌else◌, refl, sym, ap, ap₂, subst, ◌∙◌, arith, zero-add, ◌⊎◌, inl, inr}
 use Rattle.std.specs.Prelude.{is_some, unwrap_or}
 use Rattle.std.proofs.lemmas.Bool.{and_parts, eq-eqb, eqb-true, ne_eqb}
+use Rattle.std.proofs.Math.Bool.{and-false}
 use Rattle.const_pool.specs.declared.class.ClassFile.{ClassFile}
 use Rattle.const_pool.specs.declared.class.Member.{Member}
 use Rattle.jvm_model.specs.declared.program.MethodPlace.{MethodPlace}
@@ -58,10 +59,6 @@ is-other : (y x : MethodPlace) → IsFrom y.class (y.position + 1) x → same_pl
 is-other y x (class_behind h) = ap (λ b. b && y.position == x.position) (ne_eqb y.class x.class (λ e. omega (arith, e, h)))
 is-other y x (behind e h) =
     ap (λ b. (y.class == x.class) && b) (ne_eqb y.position x.position (λ q. omega (arith, q, h))) ∙ and-false (y.class == x.class)
-  where
-    and-false : (b : Bool) → (b && false) ≡ false
-    and-false true = refl
-    and-false false = refl
 
 from-through : (c k : ℕ) (y x : MethodPlace) → IsFrom c k y → IsFrom y.class (y.position + 1) x → IsFrom c k x
 from-through c k y x (class_behind h) (class_behind g) = class_behind (omega (arith, h, g))

@@ -7,6 +7,7 @@ use Rattle.std.specs.List.{AllByRecursion}
 use Rattle.std.proofs.lemmas.Bool.{and_parts, eqb-true, eq-eqb}
 use Rattle.std.proofs.lemmas.Option.{slice_get_within}
 use Rattle.std.proofs.lemmas.List.{append-nil}
+use Rattle.std.proofs.Math.Bool.{or-true}
 use Rattle.const_pool.specs.declared.class.Member.{Member}
 use Rattle.jvm_model.specs.declared.event.Mark.{Mark}
 use Rattle.jvm_model.specs.declared.event.Mark.TheVariants.{Off, Plain, Root}
@@ -108,16 +109,12 @@ module _ (p : Program) (r : Revealed) (are : p.methods ≡ methods_numbered p.cl
 among-filter : (test : ℕ → Bool) (l : List ℕ) (x : ℕ) → is_among x l ≡ true → test x ≡ true → is_among x (filter test l) ≡ true
 among-filter test [] x among is = absurd (let h : false ≡ true = among in cc)
 among-filter test (y ∷ l) x among is = by (λ later. among-filter test l x later is) (x == y) refl (test y) refl where
-  or-right : (a : Bool) → (a || true) ≡ true
-  or-right true = refl
-  or-right false = refl
-
   by : (is_among x l ≡ true → is_among x (filter test l) ≡ true) → (a : Bool) → (x == y) ≡ a → (b : Bool) → test y ≡ b → is_among x (if test y then y ∷ filter test l else filter test l) ≡ true
   by rest true e true t = subst (λ b. is_among x (if b then y ∷ filter test l else filter test l) ≡ true) (sym t) (ap (λ b. b || is_among x (filter test l)) e)
   by rest true e false t = absurd (let h : false ≡ true = sym t ∙ (ap test (sym (eqb-true x y e)) ∙ is) in cc)
   by rest false e true t =
       subst (λ b. is_among x (if b then y ∷ filter test l else filter test l) ≡ true) (sym t)
-      (ap (λ b. (x == y) || b) (rest (ap (λ b. b || is_among x l) (sym e) ∙ among)) ∙ or-right (x == y))
+      (ap (λ b. (x == y) || b) (rest (ap (λ b. b || is_among x l) (sym e) ∙ among)) ∙ or-true (x == y))
   by rest false e false t =
       subst (λ b. is_among x (if b then y ∷ filter test l else filter test l) ≡ true) (sym t) (rest (ap (λ b. b || is_among x l) (sym e) ∙ among))
 
