@@ -201,7 +201,8 @@ impl Session {
     }
 
     /// Selects a method: the activations that begin in it from now on are roots. Before the first advance the action
-    /// has moment 0.
+    /// has moment 0. The method is said by its number in `Program::methods`. A number that no method has is accepted
+    /// too: it marks nothing, and takes memory for each number up to it.
     pub fn select(&mut self, method: u32) -> Result<(), ActError>
         requires { CanActNow self.old }
         ensures ok { OnOk result (Accepts self.old true method self.new) }
@@ -212,7 +213,8 @@ impl Session {
         self.act(true, method)
     }
 
-    /// Deselects a method: what begins in it from now on is no root. Its live activations stay roots.
+    /// Deselects a method, by its number in `Program::methods`: what begins in it from now on is no root. Its live
+    /// activations stay roots. A number that no method has is accepted where it was selected.
     pub fn deselect(&mut self, method: u32) -> Result<(), ActError>
         requires { CanActNow self.old }
         ensures ok { OnOk result (Accepts self.old false method self.new) }
