@@ -291,7 +291,7 @@ impl Reveal {
         Ok(())
     }
 
-    /// The first so many of the loaded classes stay, and the first so many of the targets: those behind them are dropped.
+    /// The first so many of the loaded classes stay, and the first so many of the targets. Those behind are dropped.
     pub fn go_back(&mut self, loaded: usize, targets: usize)
         ensures { self.new ≡ (record self.old {
           lineage = record self.old.lineage {

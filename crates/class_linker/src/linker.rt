@@ -87,6 +87,7 @@ impl Linker {
         })
     }
 
+    /// The program, with the built-in classes behind its own.
     pub fn program(&self) -> &Program
         ensures { result.now ≡ self.now.program }
     {
