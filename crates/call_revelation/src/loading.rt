@@ -291,7 +291,7 @@ impl Reveal {
         Ok(())
     }
 
-    /// No more classes are loaded than so many, and there are no more targets.
+    /// The first so many of the loaded classes stay, and the first so many of the targets. Those behind are dropped.
     pub fn go_back(&mut self, loaded: usize, targets: usize)
         ensures { self.new ≡ (record self.old {
           lineage = record self.old.lineage {

@@ -104,7 +104,7 @@ IsTold told name first marks NoMemory = Unit {0}
 
 -- what standard error tells of a refusal
 abbrev pub reason_of : ImageError → List ℕ
-reason_of NotNumbered = codes "its first method has no number"
+reason_of NotNumbered = codes "FIRST is no number up to 2147418112"
 reason_of NotMarked = codes "its methods cannot have these marks"
 reason_of NotFetched = codes "it could not be fetched"
 reason_of NotRead = codes "it is no class file"

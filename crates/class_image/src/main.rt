@@ -19,7 +19,7 @@ fn reason(error: ImageError) -> &'static str
     ensures { result.now ≡ reason_of error }
 {
     match error {
-        ImageError::NotNumbered => "its first method has no number",
+        ImageError::NotNumbered => "FIRST is no number up to 2147418112",
         ImageError::NotMarked => "its methods cannot have these marks",
         ImageError::NotFetched => "it could not be fetched",
         ImageError::NotRead => "it is no class file",
@@ -29,7 +29,8 @@ fn reason(error: ImageError) -> &'static str
     }
 }
 
-/// Rewrites the files that the words name, up to the first that is refused, and tells that one.
+/// Rewrites the files that the words name, up to the first that is refused, and tells that one. A last file without
+/// both its words is refused too.
 fn main(rt: HostRuntime) -> io::Result<ExitCode> {
     let words: Vec<String> = env::args(&rt)?.collect(rt.alloc())?;
     let mut files = DiskFiles::new(rt.alloc(), &rt);
@@ -41,6 +42,10 @@ fn main(rt: HostRuntime) -> io::Result<ExitCode> {
             return Ok(ExitCode::from(1));
         }
         left = rest;
+    }
+    if let Some(name) = left.first() {
+        eprintln!(rt; "class_image: {name}: FIRST and MARKS are not both behind it")?;
+        return Ok(ExitCode::from(1));
     }
     Ok(ExitCode::SUCCESS)
 }

@@ -169,7 +169,7 @@ dimensions_count = refl
 pub no_array_is_below : is_subkind with_arrays (record { dimensions = 0; base = 16 }) (record { dimensions = 1; base = 16 }) ≡ false
 no_array_is_below = refl
 
--- ---- an interface whose superclass is A, with a field, and B that implements it: B is a subtype of A and extends it not
+-- ---- an interface whose superclass is A, with a field, and B that implements it, a subtype of A that extends it not
 
 abbrev through_an_interface : Program
 through_an_interface = program_of (

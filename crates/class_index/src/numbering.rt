@@ -70,6 +70,7 @@ pub fn class_of_kind(program: &Program, kind: u32) -> u32
 
 /// The same of the program that is indexed, which has at most 4,096 classes of its own.
 impl Index {
+    /// How many classes of the program stand before the built-in ones.
     pub fn user_count(&self) -> u32
         ensures count { result ≡ user_count self.now }
         ensures most { result ≤ 4096 }
@@ -77,6 +78,7 @@ impl Index {
         user_count(self.program())
     }
 
+    /// The base of a class in kinds.
     pub fn base_of_class(&self, class: u32) -> u32
         requires { class ≤ length self.now.classes }
         ensures base { result ≡ base_of_class self.now class }
@@ -85,12 +87,14 @@ impl Index {
         base_of_class(self.program(), class)
     }
 
+    /// The position of the class of a base; a primitive element has none.
     pub fn class_of_base(&self, base: u32) -> Option<u32>
         ensures { result ≡ class_of_base self.now base }
     {
         class_of_base(self.program(), base)
     }
 
+    /// The position of the class of objects of this kind; arrays are objects of java/lang/Object.
     pub fn class_of_kind(&self, kind: u32) -> u32
         ensures { result ≡ class_of_kind self.now kind }
     {

@@ -32,7 +32,7 @@ use std::marker::Model;
 use std::rc::Rc;
 
 /// A program's classes, and which of them are loaded, in order. A clause sees these two. Classes are named by their
-/// positions, for an array by that of java/lang/Object. Every call but `new` and `load` takes no memory.
+/// positions, for an array by that of java/lang/Object. No call but `new`, `over` and `load` takes memory.
 #[derive(Drop)]
 pub struct Linker {
     alloc: Global,
@@ -87,6 +87,7 @@ impl Linker {
         })
     }
 
+    /// The program, with the built-in classes behind its own.
     pub fn program(&self) -> &Program
         ensures { result.now ≡ self.now.program }
     {

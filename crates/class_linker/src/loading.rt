@@ -65,6 +65,7 @@ pub struct State {
 // ---- what a class needs
 
 /// Whether the name is one of a class of the asked kind.
+// Not inlined, so that a level of the recursion of a load takes little of the stack.
 #[inline(never)]
 fn is_met(index: &Index, need: &Need<'_>) -> bool
     ensures { result ≡ is_met index.now (need_view need.now) }
@@ -254,6 +255,7 @@ fn open<'a>(
 }
 
 /// Looks at how a name stands, and puts its class on the path where it is to be loaded.
+// Not inlined, so that a level of the recursion of a load takes little of the stack.
 #[inline(never)]
 fn begin<'a>(
     alloc: Global,
@@ -276,6 +278,7 @@ fn begin<'a>(
 }
 
 /// Takes a class off the path and notes it as loaded.
+// Not inlined, so that a level of the recursion of a load takes little of the stack.
 #[inline(never)]
 fn close(
     alloc: Global,

@@ -45,6 +45,7 @@ impl NodeTable {
         requires { IsTree self.now }
         ensures { IfOk result (λ totals. totals ≡ totals_of (profile_in self.now)) }
     {
+        // Read so that it is known that the clock has 64 bits, and with it each sum.
         let _clock = self.clock;
         let mut totals = own_steps(alloc, self.nodes.as_slice())?;
         let mut number = self.nodes.len();

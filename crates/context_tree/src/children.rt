@@ -34,6 +34,7 @@ impl Children {
     }
 
     /// The number of the child that goes on by this method, by hashing.
+    // Not inlined: it is for more than four children, and the look at the first four has to stay small.
     #[inline(never)]
     fn look_up(&self, method: u32) -> Option<usize>
         ensures { result ≡ number_under method self.now }

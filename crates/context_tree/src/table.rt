@@ -82,6 +82,7 @@ impl NodeTable {
         requires tree { IsTree self.now }
         ensures { result ≡ total_at node self.now.nodes }
     {
+        // Read so that it is known that the clock has 64 bits, and with it each sum, and that the nodes can be counted.
         let _clock = self.clock;
         let _count = self.nodes.len();
         let mut sum = self.own(node);
@@ -151,6 +152,7 @@ impl NodeTable {
     }
 
     /// One node more, which is a child. An Err changes nothing.
+    // Not inlined: it is done once for each context, and an entry into one that is there has to stay small.
     #[inline(never)]
     fn grow(&mut self, parent: Option<usize>, method: u32) -> Result<(), NoMemory>
         requires within { IfSome parent (λ i. i < length self.old.children) }

@@ -113,6 +113,7 @@ impl Heap {
         ensures found { option_copied result ≡ object_at object self.now.objects }
         ensures fits { IfSome result (λ o. length_of o.now < 2 ^ 32) }
     {
+        // Read so that the invariant is known, by which each length has 32 bits.
         let _limit = self.limit;
         if object == 0 {
             return None;

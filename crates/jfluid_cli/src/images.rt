@@ -92,9 +92,8 @@ fn put_images<G: Sink>(
     put_records(alloc, swaps, images)
 }
 
-/// Puts the images of a session, where they are asked for, and then its report, by its tree or by the
-/// sums over it, and answers the
-/// status of its run, or 8 where a put failed.
+/// Puts the images of a session, where they are asked for, and then its report, by its tree or by the sums over it, and
+/// answers the status of its run, or 8 where a put failed.
 pub fn show<G: Sink, P: Sink>(
     alloc: Global,
     session: &mut Session,

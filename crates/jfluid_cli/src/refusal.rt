@@ -196,7 +196,8 @@ fn line(
     }
 }
 
-/// Puts bytes to the report. A fault changes no status.
+/// Puts bytes to the report, and answers whether it had no fault. What a fault does to the status is its caller's: the
+/// line of a refusal leaves the status as it is, and a report that was not put ends with 8.
 pub fn put_bytes<P: Sink>(report: &mut P, bytes: &[u8]) -> bool
     ensures put { let old = sink_view (P.taken report.old) (P.faults report.old) in
         let new = sink_view (P.taken report.new) (P.faults report.new) in

@@ -464,9 +464,11 @@ impl Vm {
         self.run_rested(most - made)
     }
 
-    /// Makes the versions of an image current: the methods of the class begin in them from now on,
-    /// also within a step in hand. Live activations stay in theirs. It takes all memory first:
-    /// after want of memory nothing has changed.
+    /// Makes the versions of an image current: the methods of the class begin in them from now on, also within a step
+    /// in hand. Live activations stay in theirs. It takes all memory first: after want of memory nothing has changed.
+    /// For each method of the class `marks` says which probes the image has in it, and `homes` where its original
+    /// instructions stand there, or None for one that has its original code. The marks are for clauses alone: they are
+    /// not looked at when it runs.
     pub fn install(
         &mut self,
         class: u32,

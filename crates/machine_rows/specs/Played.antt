@@ -95,15 +95,15 @@ IsNotUnfit p class bytes = (class_at p class ≡ None) ⊎ Redefines p class byt
 
 -- What is told of a line that has not come. An image for marks that a class can have is never refused.
 pub data IsOtherwise (old : View) : Line → Difference → Type 0 where
-  spent : (turn : Turn) (clock : ℕ) → most_steps < old.clock → IsOtherwise old (Turned turn clock) difference.Exhausted
+  spent : (turn : Turn) (clock : ℕ) → most_steps < old.clock → IsOtherwise old (Turned turn clock) difference.NotAsked
   turned : (turn came : Turn) (clock now : ℕ) → IsTurnedElse old turn clock came now
       → IsOtherwise old (Turned turn clock) (difference.Turned came now)
-  not_run : (most : ℕ) (turn : Turn) (clock : ℕ) → IsNotRun old most → IsOtherwise old (Ran most turn clock) difference.Exhausted
+  not_run : (most : ℕ) (turn : Turn) (clock : ℕ) → IsNotRun old most → IsOtherwise old (Ran most turn clock) difference.NotAsked
   ran : (most : ℕ) (turn came : Turn) (clock now : ℕ) → IsRunElse old most turn clock came now
       → IsOtherwise old (Ran most turn clock) (difference.Turned came now)
   not_marked : (class : ℕ) (marks : List Mark) → CannotBeMarked old class marks → IsOtherwise old (Installed class marks) difference.NotMarked
   not_loaded : (class : ℕ) (bytes : List ℕ) (refusal : SwapError) → is_loaded class old ≡ false
-      → IsOtherwise old (Refused class bytes refusal) difference.NotMarked
+      → IsOtherwise old (Refused class bytes refusal) difference.NotLoaded
   not_refused : (class : ℕ) (bytes : List ℕ) (refusal : SwapError) → IsNotUnfit old.program class bytes
       → IsOtherwise old (Refused class bytes refusal) difference.NotRefused
   refused : (class : ℕ) (bytes : List ℕ) (refusal came : SwapError) → IsRefused old.program class bytes came → came ≢ refusal

@@ -126,7 +126,7 @@ pub fn refuse(
         (IsOtherwise vm.old (Refused class bytes.now wanted))) }
 {
     if !vm.linker().is_loaded(class) {
-        return Ok(Some(Difference::NotMarked));
+        return Ok(Some(Difference::NotLoaded));
     }
     if !is_unfit(alloc, vm, class, bytes)? {
         return Ok(Some(Difference::NotRefused));

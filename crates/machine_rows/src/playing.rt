@@ -63,7 +63,7 @@ fn turn(vm: &mut Vm, wanted: &Turn, clock: u64) -> Result<Option<Difference>, No
         (IsOtherwise vm.old (Turned wanted.now clock))) }
 {
     if vm.clock() > MOST_STEPS {
-        return Ok(Some(Difference::Exhausted));
+        return Ok(Some(Difference::NotAsked));
     }
     let came = vm.step();
     turn_compared(wanted, clock, came, vm.clock())
@@ -78,7 +78,7 @@ fn run(vm: &mut Vm, most: u64, wanted: &Turn, clock: u64) -> Result<Option<Diffe
         (IsOtherwise vm.old (Ran most wanted.now clock))) }
 {
     if vm.clock() > MOST_STEPS || most > MOST_STEPS || most == 0 || !vm.is_resting() {
-        return Ok(Some(Difference::Exhausted));
+        return Ok(Some(Difference::NotAsked));
     }
     let came = vm.run_on(most);
     turn_compared(wanted, clock, came, vm.clock())

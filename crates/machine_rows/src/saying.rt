@@ -145,7 +145,7 @@ fn so_often(
 }
 
 /// Turns that settle, up to this clock.
-fn settled(alloc: Global, first: u64, last: u64) -> Result<Said, NoMemory>
+fn turns_settled(alloc: Global, first: u64, last: u64) -> Result<Said, NoMemory>
     ensures { IfOk result (λ said. said ≡ up_to settles first last) }
 {
     let mut lines = Seq::new(alloc);
@@ -250,7 +250,7 @@ fn plain_said(
             None => Ok(None),
         },
         "settled" => match number_of_64_bits(line_parted(rest).0) {
-            Some(last) => Ok(Some(settled(alloc, next, last)?)),
+            Some(last) => Ok(Some(turns_settled(alloc, next, last)?)),
             None => Ok(None),
         },
         "run" => match number_of_64_bits(line_parted(rest).0) {
@@ -282,7 +282,7 @@ fn refusal_of(alloc: Global, program: &Program, words: &str) -> Result<Option<Re
 }
 
 /// Bytes that redefine nothing: `CLASS FILE CAUSE..`.
-fn refused<F: Files>(
+fn bytes_refused<F: Files>(
     alloc: Global,
     program: &Program,
     next: u64,
@@ -326,7 +326,7 @@ pub fn line_said<F: Files>(
 {
     let (word, rest) = line_parted(text);
     if word == "refused" {
-        return refused(alloc, program, next, rest, files);
+        return bytes_refused(alloc, program, next, rest, files);
     }
     match plain_said(alloc, program, next, text) {
         Ok(said) => Ok(said),

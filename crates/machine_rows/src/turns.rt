@@ -10,14 +10,17 @@ use std::fmt;
 /// What came in place of what a line says.
 #[derive(Drop)]
 pub enum Difference {
-    /// The machine has made so many steps that no more are asked of it.
-    Exhausted,
+    /// Nothing is asked of the machine: it has made too many steps, or the line says too many or none, or says how many
+    /// while a step is in hand.
+    NotAsked,
     /// This turn, with its clock.
     Turned(Turn, u64),
     /// This answer of a redefinition.
     Redefined(Option<SwapError>),
     /// The class is not loaded, or the marks are not one for each method, or of one without Code.
     NotMarked,
+    /// The class that bytes are to be tried on is not loaded.
+    NotLoaded,
     /// The bytes have the shape of the class.
     NotRefused,
     /// The run has ended so, or not.
@@ -31,11 +34,15 @@ pub enum Difference {
 impl fmt::Display for Difference {
     fn fmt<W: fmt::Write>(&self, f: &mut fmt::Formatter<W>) -> fmt::Result {
         match self {
-            Difference::Exhausted => write!(f, "there are no steps left"),
+            Difference::NotAsked => write!(
+                f,
+                "no steps are asked for: too many were made, these are too many or none, or one is in hand"
+            ),
             Difference::Turned(turn, clock) => write!(f, "{turn:?} at {clock}"),
             Difference::Redefined(Some(error)) => write!(f, "the class is refused: {error}"),
             Difference::Redefined(None) => write!(f, "the class is redefined"),
             Difference::NotMarked => write!(f, "the class cannot have these marks"),
+            Difference::NotLoaded => write!(f, "the class is not loaded"),
             Difference::NotRefused => write!(f, "the bytes are not refused"),
             Difference::Ended(Some(ending)) => write!(f, "the run has ended: {ending:?}"),
             Difference::Ended(None) => write!(f, "the run goes on"),

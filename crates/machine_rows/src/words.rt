@@ -89,6 +89,7 @@ pub fn marks_of(alloc: Global, word: &str) -> Result<Option<Seq<Mark>>, NoMemory
     Ok(Some(marks))
 }
 
+/// The kind of event that a word says.
 pub fn kind_of(word: &str) -> Option<EventKind>
     ensures { result ≡ kind_said word.now }
 {

@@ -132,6 +132,7 @@ pub fn not_of_class(by: Selecting<'_>) -> AbruptCompletion
     }
 }
 
+/// Whether the method is referred to as one of an interface, and not of a class.
 pub fn names_interface(by: Selecting<'_>) -> bool
     ensures { result ≡ names_interface (selecting_view by.entry) }
 {

@@ -90,6 +90,7 @@ impl Session {
         ensures clock { result ≡ self.now.clock }
         ensures before_the_run { self.now.broken ≡ false → self.now.started ≡ false → result ≡ 0 }
     {
+        // Read so that the invariant is known, which says of a session that is not broken what its parts are.
         let _whole = self.broken;
         self.parts.vm.clock()
     }
@@ -98,6 +99,7 @@ impl Session {
     pub fn ending(&self) -> Option<Ending>
         ensures { self.now.broken ≡ false → result ≡ ending_in self.now }
     {
+        // Read so that the invariant is known, which says of a session that is not broken what its parts are.
         let _whole = self.broken;
         self.parts.vm.ending()
     }
@@ -106,6 +108,7 @@ impl Session {
     pub fn output(&self) -> &[u8]
         ensures { self.now.broken ≡ false → result.now ≡ (run_of self.now).output }
     {
+        // Read so that the invariant is known, which says of a session that is not broken what its parts are.
         let _whole = self.broken;
         self.parts.vm.output()
     }
@@ -116,6 +119,7 @@ impl Session {
         ensures entries { self.now.broken ≡ false
             → AreSwapsOf self.now.program (entries_of self.now) result.now }
     {
+        // Read so that the invariant is known, which says of a session that is not broken what its parts are.
         let _whole = self.broken;
         self.parts.swaps.as_slice()
     }
@@ -127,6 +131,7 @@ impl Session {
         ensures quiet { self.now.broken ≡ false → IsQuiet (standing_of self.now)
             → result ≡ Mark.Off }
     {
+        // Read so that the invariant is known, which says of a session that is not broken what its parts are.
         let _whole = self.broken;
         self.parts.reveal.mark(self.parts.vm.program(), method)
     }
@@ -142,6 +147,7 @@ impl Session {
     fn is_selected(&self, method: u32) -> bool
         ensures { self.now.broken ≡ false → result ≡ is_selected_in self.now method }
     {
+        // Read so that the invariant is known, which says of a session that is not broken what its parts are.
         let _whole = self.broken;
         self.parts.reveal.is_selected(method)
     }
@@ -201,7 +207,8 @@ impl Session {
     }
 
     /// Selects a method: the activations that begin in it from now on are roots. Before the first advance the action
-    /// has moment 0.
+    /// has moment 0. The method is said by its number in `Program::methods`. A number that no method has is accepted
+    /// too: it marks nothing, and takes memory for each number up to it.
     pub fn select(&mut self, method: u32) -> Result<(), ActError>
         requires { CanActNow self.old }
         ensures ok { OnOk result (Accepts self.old true method self.new) }
@@ -212,7 +219,8 @@ impl Session {
         self.act(true, method)
     }
 
-    /// Deselects a method: what begins in it from now on is no root. Its live activations stay roots.
+    /// Deselects a method, by its number in `Program::methods`: what begins in it from now on is no root. Its live
+    /// activations stay roots. A number that no method has is accepted where it was selected.
     pub fn deselect(&mut self, method: u32) -> Result<(), ActError>
         requires { CanActNow self.old }
         ensures ok { OnOk result (Accepts self.old false method self.new) }
@@ -248,6 +256,7 @@ impl Session {
         ensures tree { IsTreeOf self.now result.tree.now }
         ensures program { result.program.now ≡ self.now.program }
     {
+        // Read so that the invariant is known, which says of a gathered tree that it is that of the run.
         let _gathered = self.gathered;
         Shown {
             tree: &self.parts.tree,

@@ -12,7 +12,7 @@ use Rattle.call_revelation.specs.Reveals.{IsRevelation, nothing_revealed, now_of
 use Rattle.revelation_rows.specs.declared.item.Happening.{Happening}
 use Rattle.revelation_rows.specs.declared.item.Happening.TheVariants.{Entered, Loaded, Shown}
 use Rattle.revelation_rows.specs.Rows.{entered_often, revealed_by}
-use Rattle.revelation_rows.specs.Scenes.{HasHappened, IsBlank, IsFollowed, IsFresh, IsLinked, IsReady, loading, marks_shown, revealed}
+use Rattle.revelation_rows.specs.Scenes.{HasHappened, IsBlank, IsFollowed, IsFresh, IsLinked, IsReady, loading, marks_shown, methods_revealed}
 use Rattle.revelation_rows.proofs.SceneLemmas.{followed, nothing-along}
 
 still-ready : (l : LinkerView) (old new : Reveal) → IsReady l old → IsRevelation l.program new → (now_of new).loaded ≡ (now_of old).loaded → IsReady l new
@@ -29,7 +29,7 @@ still-ready l old new is revelation loaded = record {
 -- where the loaded classes stay, and no mark is shown
 happened : (happening : Happening) (l : LinkerView) (old new : Reveal) → IsReady l old → IsRevelation l.program new
     → (revealed_by l.program happening (now_of old)).loaded ≡ (now_of old).loaded
-    → with_loaded l.loaded (revealed_by l.program happening (now_of old)) ≡ revealed_by l.program happening (revealed l old)
+    → with_loaded l.loaded (revealed_by l.program happening (now_of old)) ≡ revealed_by l.program happening (methods_revealed l old)
     → now_of new ≡ revealed_by l.program happening (now_of old) → new.shown ≡ marks_shown happening l old → HasHappened happening l old l new
 happened happening l old new is revelation same behind now shown = record {
   ready = still-ready l old new is revelation (ap (λ (n : Revealed). n.loaded) now ∙ same);
@@ -40,7 +40,7 @@ happened happening l old new is revelation same behind now shown = record {
 
 pub if-happened : {E : Type 0} (happening : Happening) (l : LinkerView) (old new : Reveal) (result : Result (Unit {0}) E) → IsReady l old → IsRevelation l.program new
     → (revealed_by l.program happening (now_of old)).loaded ≡ (now_of old).loaded
-    → with_loaded l.loaded (revealed_by l.program happening (now_of old)) ≡ revealed_by l.program happening (revealed l old)
+    → with_loaded l.loaded (revealed_by l.program happening (now_of old)) ≡ revealed_by l.program happening (methods_revealed l old)
     → OnOk result (now_of new ≡ revealed_by l.program happening (now_of old)) → new.shown ≡ marks_shown happening l old
     → OnOk result (HasHappened happening l old l new)
 if-happened happening l old new (Ok done) is revelation same behind now shown = happened happening l old new is revelation same behind now shown
@@ -111,6 +111,6 @@ pub entered-next : (method times : ℕ) (l : LinkerView) (r mid after : Reveal) 
 entered-next method times l r mid after first then_ = record {
   ready = then_.ready;
   program = refl;
-  now = then_.now ∙ (ap (with_method_entered method) first.now ∙ ap (λ n. entered_often method n (revealed l r)) (sym (add-one times)));
+  now = then_.now ∙ (ap (with_method_entered method) first.now ∙ ap (λ n. entered_often method n (methods_revealed l r)) (sym (add-one times)));
   shown = then_.shown ∙ first.shown;
 }

@@ -14,7 +14,7 @@ use Rattle.revelation_rows.specs.declared.item.Happening.TheVariants.{Deselected
 use Rattle.revelation_rows.specs.declared.item.Item.{Item}
 use Rattle.revelation_rows.specs.declared.item.Item.TheVariants.{Happens, Is}
 use Rattle.revelation_rows.specs.Rows.{Comes, Differs, Passes, Seen, behind, can_be_asked, can_be_told, first, revealed_by, shown_by}
-use Rattle.revelation_rows.specs.Scenes.{GoesOn, HasHappened, IsFollowed, IsFresh, IsReady, IsSeen, IsToldOf, StopsAt, marks_shown, revealed}
+use Rattle.revelation_rows.specs.Scenes.{GoesOn, HasHappened, IsFollowed, IsFresh, IsReady, IsSeen, IsToldOf, StopsAt, marks_shown, methods_revealed}
 use Rattle.row_words.proofs.ListLemmas.{rest-more}
 
 -- ---- one item
@@ -30,7 +30,7 @@ shown-behind Quiet l r s seen = seen.shown
 shown-behind Shown l r s seen = ap (marks_of l.program) seen.now
 
 goes-on : (happening : Happening) (l : LinkerView) (r : Reveal) (next : LinkerView) (after : Reveal) → HasHappened happening l r next after
-    → can_be_asked l.program (revealed l r) (Happens happening) ≡ true → GoesOn (Happens happening) l r next after
+    → can_be_asked l.program (methods_revealed l r) (Happens happening) ≡ true → GoesOn (Happens happening) l r next after
 goes-on happening l r next after has can = record {
   ready = has.ready;
   program = has.program;
@@ -43,15 +43,15 @@ goes-on happening l r next after has can = record {
 
 -- where it is this one
 pub goes-on-as : (happening said : Happening) (l : LinkerView) (r : Reveal) (next : LinkerView) (after : Reveal) → happening ≡ said
-    → HasHappened said l r next after → can_be_asked l.program (revealed l r) (Happens said) ≡ true → GoesOn (Happens happening) l r next after
+    → HasHappened said l r next after → can_be_asked l.program (methods_revealed l r) (Happens said) ≡ true → GoesOn (Happens happening) l r next after
 goes-on-as happening said l r next after e has can =
     subst (λ h. GoesOn (Happens h) l r next after) (sym e) (goes-on said l r next after has can)
 
-pub cannot-happen : (happening : Happening) (l : LinkerView) (r : Reveal) → can_be_asked l.program (revealed l r) (Happens happening) ≡ false
+pub cannot-happen : (happening : Happening) (l : LinkerView) (r : Reveal) → can_be_asked l.program (methods_revealed l r) (Happens happening) ≡ false
     → StopsAt (Happens happening) l r NotLoaded
 cannot-happen happening l r cannot s seen = ap (λ n. can_be_asked l.program n (Happens happening)) (sym seen.now) ∙ cannot
 
-pub untold : (fact : Fact) (l : LinkerView) (r : Reveal) → can_be_told l.program (revealed l r) fact ≡ false → StopsAt (Is fact) l r NotLoaded
+pub untold : (fact : Fact) (l : LinkerView) (r : Reveal) → can_be_told l.program (methods_revealed l r) fact ≡ false → StopsAt (Is fact) l r NotLoaded
 untold fact l r cannot s seen = ap (λ n. can_be_told l.program n fact) (sym seen.now) ∙ cannot
 
 pub fact-holds : (fact came : Fact) (l : LinkerView) (r after : Reveal) → IsFollowed l r after → IsToldOf l r fact came → came ≡ fact → GoesOn (Is fact) l r l after

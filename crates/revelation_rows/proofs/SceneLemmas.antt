@@ -1,4 +1,4 @@
--- An admitted program can be linked and revealed, and a revelation follows what its linker loads.
+-- An admitted program can be linked and methods_revealed, and a revelation follows what its linker loads.
 use Rattle.std.proofs.Common.{◌≡◌, ℕ, true, false, ◌+◌, ◌<◌, ◌^◌, List, [], ◌∷◌, ◌++◌, length, ap, sym, subst, refl, ◌∙◌}
 use Rattle.std.specs.Prelude.{Option, Some, None}
 use Rattle.std.specs.Option.{option_map_or}
@@ -24,7 +24,7 @@ use Rattle.possible_callees.proofs.Numbers.Fronts.{front-among, front-more, fron
 use Rattle.call_revelation.specs.declared.reveal.Reveal.{Reveal}
 use Rattle.call_revelation.specs.Reveals.{IsAhead, IsRevelation, nothing_revealed, now_of}
 use Rattle.prepared_code.proofs.Initializing.BuiltInLoads.{few-coded}
-use Rattle.revelation_rows.specs.Scenes.{IsAlong, IsFollowed, IsLinked, IsReady, revealed}
+use Rattle.revelation_rows.specs.Scenes.{IsAlong, IsFollowed, IsLinked, IsReady, methods_revealed}
 
 -- ---- what is loaded more
 
@@ -70,7 +70,7 @@ ready-linked l next r is by = record { along = along-linked l next r is.along by
 pub ready-ahead : (l : LinkerView) (r : Reveal) → IsReady l r → IsAhead l r
 ready-ahead l r is = record { loaded = λ class h. front-among r.lineage.loaded l.loaded class is.along.prefix h; root = is.root }
 
-pub followed : (l : LinkerView) (old new : Reveal) → IsReady l old → IsRevelation l.program new → now_of new ≡ revealed l old → new.shown ≡ old.shown
+pub followed : (l : LinkerView) (old new : Reveal) → IsReady l old → IsRevelation l.program new → now_of new ≡ methods_revealed l old → new.shown ≡ old.shown
     → IsFollowed l old new
 followed l old new is revelation now shown =
     let same : (now_of new).loaded ≡ l.loaded = ap (λ (n : Revealed). n.loaded) now in

@@ -44,17 +44,17 @@ pub record IsReady (l : LinkerView) (r : Reveal) : Type 0 where
 -- ---- what is seen of it
 
 -- what is selected and entered, with what the linker has loaded: it alone says that
-abbrev pub revealed : LinkerView → Reveal → Revealed
-revealed l r = with_loaded l.loaded (now_of r)
+abbrev pub methods_revealed : LinkerView → Reveal → Revealed
+methods_revealed l r = with_loaded l.loaded (now_of r)
 
 pub record IsSeen (l : LinkerView) (r : Reveal) (s : Seen) : Type 0 where
-  pub now : revealed l r ≡ s.now
+  pub now : methods_revealed l r ≡ s.now
   pub shown : r.shown ≡ marks_of l.program s.before
 
 -- the revelation takes what is loaded more, as it does before it is asked for marks and before a method is entered
 pub record IsFollowed (l : LinkerView) (r after : Reveal) : Type 0 where
   pub ready : IsReady l after
-  pub now : now_of after ≡ revealed l r
+  pub now : now_of after ≡ methods_revealed l r
   pub shown : after.shown ≡ r.shown
 
 -- nothing is loaded, and nothing was shown
@@ -75,12 +75,12 @@ marks_shown (Entered method times) l r = r.shown
 marks_shown (Selected method) l r = r.shown
 marks_shown (Deselected method) l r = r.shown
 marks_shown Quiet l r = r.shown
-marks_shown Shown l r = marks_of l.program (revealed l r)
+marks_shown Shown l r = marks_of l.program (methods_revealed l r)
 
 pub record HasHappened (happening : Happening) (l : LinkerView) (r : Reveal) (next : LinkerView) (after : Reveal) : Type 0 where
   pub ready : IsReady next after
   pub program : next.program ≡ l.program
-  pub now : revealed next after ≡ revealed_by l.program happening (revealed l r)
+  pub now : methods_revealed next after ≡ revealed_by l.program happening (methods_revealed l r)
   pub shown : after.shown ≡ marks_shown happening l r
 
 -- the fact of its kind that is told of whatever is seen
@@ -96,7 +96,7 @@ pub record GoesOn (item : Item) (l : LinkerView) (r : Reveal) (next : LinkerView
 
 -- what is told of a fact: that of its kind, unless it cannot be told
 abbrev pub IsAnswered : LinkerView → Reveal → Fact → Option Fact → Type 0
-IsAnswered l r fact None = can_be_told l.program (revealed l r) fact ≡ false
+IsAnswered l r fact None = can_be_told l.program (methods_revealed l r) fact ≡ false
 IsAnswered l r fact (Some came) = IsToldOf l r fact came
 
 -- an item does not pass, which is told

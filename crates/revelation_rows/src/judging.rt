@@ -96,7 +96,7 @@ fn judge<R: CpuClock>(
     files: &[Vec<u8>],
     row: &str,
 ) -> Result<(Option<String>, Spent), RowError>
-    ensures told { let files = map (λ f. f.items) files.now in
+    ensures difference { let files = map (λ f. f.items) files.now in
         IfOk result (λ answer. IsToldOfRow files row.now answer.0) }
     ensures unplayed { IfErr result (IsUnplayed (map (λ f. f.items) files.now) row.now) }
 {
@@ -127,7 +127,7 @@ fn judge<R: CpuClock>(
 }
 
 /// The verdict on a row all of which came: `ROW ok`.
-fn passed(alloc: Global, row: &str) -> Result<Verdict, AllocError>
+fn row_passed(alloc: Global, row: &str) -> Result<Verdict, AllocError>
     ensures line { IfOk result (λ v. string_bytes v.line ≡ row.now ++ codes " ok") }
     ensures passed { IfOk result (λ v. v.has_passed ≡ true) }
 {
@@ -139,7 +139,7 @@ fn passed(alloc: Global, row: &str) -> Result<Verdict, AllocError>
 }
 
 /// The verdict on another: `ROW: `, and what came in place of what it says, or why it is not played.
-fn failed(alloc: Global, row: &str, told: String) -> Result<Verdict, AllocError>
+fn row_failed(alloc: Global, row: &str, told: String) -> Result<Verdict, AllocError>
     ensures line { IfOk result (λ v.
         string_bytes v.line ≡ row.now ++ (codes ": " ++ string_bytes told)) }
     ensures passed { IfOk result (λ v. v.has_passed ≡ false) }
@@ -190,13 +190,13 @@ fn judge_row<R: CpuClock>(
                 return Ok(took(alloc, spent)?);
             }
             match difference {
-                None => Ok(passed(alloc, row)?),
-                Some(told) => Ok(failed(alloc, row, told)?),
+                None => Ok(row_passed(alloc, row)?),
+                Some(told) => Ok(row_failed(alloc, row, told)?),
             }
         }
         Err(error) => {
             let told = cause(alloc, &error)?;
-            Ok(failed(alloc, row, told)?)
+            Ok(row_failed(alloc, row, told)?)
         }
     }
 }

@@ -51,7 +51,7 @@ pub fn fact_told(
     fact: &Fact,
 ) -> Result<Option<Fact>, NoMemory>
     requires { IsReady linker.now reveal.old }
-    ensures told { IfOk result (IsAnswered linker.now reveal.old fact.now) }
+    ensures answered { IfOk result (IsAnswered linker.now reveal.old fact.now) }
     ensures followed { IfOk result (λ came. IsFollowed linker.now reveal.old reveal.new) }
 {
     follow(alloc, linker, reveal)?;

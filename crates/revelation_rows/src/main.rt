@@ -1,10 +1,19 @@
 //! Runs rows that are data over what is marked. `revelation_rows FILE..` takes class files, one of them of the class
 //! Main, and files of rows. There a `#` begins a remark, and a row is a line `WORD.. => MARKED.. | CLASS..`: what
 //! happens, the methods that are marked behind it, a root with a `!`, and the classes that have other marks than those
-//! that were shown last, in load order. It prints a line for each, `ROW ok`, or `ROW: ` and what came in place of what
-//! the row says, then how many rows passed. Behind a first word `timed` it prints what the revelation and the linker
-//! took of the processor in each row. Its status is 0 where all passed, 1 where one did not, and 2 where a file could
-//! not be read.
+//! that were shown last, in load order. A row with no `=>` has words alone, and no marks are looked at. It prints a
+//! line for each, `ROW ok`, or `ROW: ` and what came in place of what the row says, then how many rows passed. Behind a
+//! first word `timed` it prints what the revelation and the linker took of the processor in each row. Its status is 0
+//! where all passed, 1 where one did not, and 2 where a file could not be read.
+//!
+//! The words of a row, where CLASS is the name of a class, and METHOD a class, a point and a name:
+//!
+//! - `load:CLASS`: the class is loaded, with those that it needs
+//! - `enter:METHOD`: the method is entered; `again:METHOD`: ten million times
+//! - `select:METHOD`, `deselect:METHOD`: it is selected, or is selected no more
+//! - `quiet`: no method is entered any more; `show`: the marks are shown
+//! - `selected:METHOD`, `unselected:METHOD`, `any_selected`, `none_selected`: whether it is selected, or any method is
+//! - `begins:METHOD=METHOD,..`: the methods that it can begin, in order, and nothing behind the `=` for none
 #![tactic(auto)]
 
 mod item;

@@ -175,6 +175,7 @@ pub fn enter<R: CpuClock>(
     Ok(())
 }
 
+/// A method is selected: what begins in it is a root.
 pub fn select(
     alloc: Global,
     linker: &Linker,
@@ -188,6 +189,7 @@ pub fn select(
     reveal.selected(alloc, method)
 }
 
+/// A method is selected no more.
 pub fn deselect(
     alloc: Global,
     linker: &Linker,
@@ -201,6 +203,7 @@ pub fn deselect(
     reveal.deselected(alloc, method)
 }
 
+/// No method is entered any more.
 pub fn quiet(linker: &Linker, reveal: &mut Reveal) -> Result<(), NoMemory>
     requires { IsReady linker.now reveal.old }
     ensures { OnOk result (HasHappened Quiet linker.now reveal.old linker.now reveal.new) }
@@ -208,6 +211,7 @@ pub fn quiet(linker: &Linker, reveal: &mut Reveal) -> Result<(), NoMemory>
     reveal.quiet()
 }
 
+/// Shows the marks: later ones are compared with them.
 pub fn show(alloc: Global, linker: &Linker, reveal: &mut Reveal) -> Result<(), NoMemory>
     requires { IsReady linker.now reveal.old }
     ensures { OnOk result (HasHappened Shown linker.now reveal.old linker.now reveal.new) }

@@ -42,30 +42,35 @@ pub enum Effect {
     GivesBox(u32, u32, Datum),
 }
 
+/// The answer of a method that returns no value.
 pub fn gives_nothing() -> Effect
     ensures { result ≡ gives_nothing }
 {
     Effect::Answers(Answer::Value(None))
 }
 
+/// This int is the answer.
 pub fn gives_int(n: i32) -> Effect
     ensures { result ≡ gives_int n }
 {
     Effect::Answers(Answer::Value(Some(Datum::Int(n))))
 }
 
+/// This long is the answer.
 pub fn gives_long(n: i64) -> Effect
     ensures { result ≡ gives_long n }
 {
     Effect::Answers(Answer::Value(Some(Datum::Long(n))))
 }
 
+/// This boolean is the answer, as an int.
 pub fn gives_boolean(b: bool) -> Effect
     ensures { result ≡ gives_boolean b }
 {
     gives_int(if b { 1 } else { 0 })
 }
 
+/// The object of this number is the answer, and null for 0.
 pub fn gives_reference(r: u32) -> Effect
     ensures { result ≡ gives_reference r }
 {

@@ -16,6 +16,7 @@ pub fn read_byte(input: &[u8], read: &mut usize) -> Answer
     ensures answer { result ≡ answer_of_read input.now read.old }
     ensures read { read.new ≡ after_read input.now read.old }
 {
+    // Read so that it is known that the input's bytes can be counted, so there is a number behind the byte's.
     let _size = input.len();
     match input.get(*read) {
         Some(byte) => {

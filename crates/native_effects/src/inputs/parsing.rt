@@ -7,6 +7,7 @@ use crate::inputs::texts::{same_units, units_of};
 use jf_bytes::{NoMemory, Seq};
 use std::alloc::Global;
 
+/// Whether a unit is one of the ASCII digits.
 pub fn is_digit(unit: u16) -> bool
     ensures { result ≡ is_digit unit }
 {

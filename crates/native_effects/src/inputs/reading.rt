@@ -120,6 +120,7 @@ pub fn values_between(
     ensures { IfOk result (λ values. values ≡ between from to (values_at object heap.now)) }
 {
     let mut values = Seq::with_capacity(alloc, to - from)?;
+    // Read so that it is known that the size has 32 bits, and with it each slot.
     let _size = size_at(object, heap);
     for slot in from..to {
         let Some(value) = value_at(object, slot as u32, heap) else {
@@ -162,6 +163,7 @@ pub fn chars_between(
     ensures { IfOk result (λ units. units ≡ between from to (chars_at object heap.now)) }
 {
     let mut units = Seq::with_capacity(alloc, to - from)?;
+    // Read so that it is known that the size has 32 bits, and with it each slot.
     let _size = size_at(object, heap);
     for slot in from..to {
         let Some(unit) = char_at(object, slot as u32, heap) else {

@@ -101,6 +101,7 @@ impl Runtime {
 
     /// What `new` makes of a class that is looked up, which is kept: None where it has no
     /// instances, else whether they are texts.
+    // Not inlined: it is done where nothing was found yet, and the way for what was found has to stay small.
     #[inline(never)]
     fn made_by_name(&self, kind: u32, class: u32, found: &mut Found) -> Option<bool>
         requires class { class ≡ class_of_kind self.now.world.program kind }

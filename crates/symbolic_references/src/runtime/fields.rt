@@ -304,6 +304,7 @@ impl Runtime {
     }
 
     /// getfield of a field that is looked up.
+    // Not inlined: it is done where nothing was found yet, and the way for what was found has to stay small.
     #[inline(never)]
     fn get_field_by_name(
         &self,
@@ -457,6 +458,7 @@ impl Runtime {
     }
 
     /// putfield of a field that is looked up.
+    // Not inlined: it is done where nothing was found yet, and the way for what was found has to stay small.
     #[inline(never)]
     fn put_field_by_name(
         &mut self,

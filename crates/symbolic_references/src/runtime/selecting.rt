@@ -33,6 +33,7 @@ use std::alloc::Global;
 
 impl Runtime {
     /// What is selected for objects of a kind, which is kept.
+    // Not inlined: it is for objects of another kind than the last, and the way for the last has to stay small.
     #[inline(never)]
     #[tactic(auto, using(member_selection::proofs::KnownLemmas::site_of))]
     fn select_anew(
@@ -148,6 +149,7 @@ impl Runtime {
     }
 
     /// The same where the method is looked up.
+    // Not inlined: it is done where nothing was found yet, and the way for what was found has to stay small.
     #[inline(never)]
     fn target_by_name(
         &self,

@@ -98,6 +98,7 @@ impl Runtime {
     }
 
     /// getstatic of a field that is looked up.
+    // Not inlined: it is done where nothing was found yet, and the way for what was found has to stay small.
     #[inline(never)]
     fn get_static_by_name(
         &self,
@@ -205,6 +206,7 @@ impl Runtime {
     }
 
     /// putstatic of a field that is looked up.
+    // Not inlined: it is done where nothing was found yet, and the way for what was found has to stay small.
     #[inline(never)]
     fn put_static_by_name(
         &mut self,

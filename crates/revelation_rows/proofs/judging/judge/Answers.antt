@@ -17,14 +17,14 @@ returns-in-Err-run-clause-unplayed g c =
     unbegun (map (λ f. f.items) c.args.files.now) c.args.row.now c.in-Ok.program c.deref_mut.result.now.linker c.in-Err-run.error c.in-Ok.ensures.program
     (ap (λ (s : Scene). s.linker) c.deref_mut.ensures.value ∙ c.in-Ok-new_scene.ensures.linker) c.in-Err-run.ensures.unbegun
 
-pub returns-in-Ok-text_of-clause-told : goal.returns-in-Ok-text_of-clause-told
-returns-in-Ok-text_of-clause-told g c = (
+pub returns-in-Ok-text_of-clause-difference : goal.returns-in-Ok-text_of-clause-difference
+returns-in-Ok-text_of-clause-difference g c = (
   c.in-Some-found.came,
   judged (map (λ f. f.items) c.args.files.now) c.args.row.now _ _ _ _ _ _ _ c.in-Ok.ensures.program c.in-Ok-read_row.ensures c.in-Some.is
       (ap (λ (s : Scene). s.linker) c.deref_mut.ensures.value ∙ c.in-Ok-new_scene.ensures.linker) c.as_slice.ensures c.in-Ok-run.ensures.came c.in-Some-found.is,
 )
 
-pub returns-clause-told : goal.returns-clause-told
-returns-clause-told g c =
+pub returns-clause-difference : goal.returns-clause-difference
+returns-clause-difference g c =
     judged (map (λ f. f.items) c.args.files.now) c.args.row.now _ _ _ _ _ _ _ c.in-Ok.ensures.program c.in-Ok-read_row.ensures c.in-Some.is
     (ap (λ (s : Scene). s.linker) c.deref_mut.ensures.value ∙ c.in-Ok-new_scene.ensures.linker) c.as_slice.ensures c.in-Ok-run.ensures.came c.in-None.is

@@ -8,17 +8,17 @@ returns-then-is_same c =
     let l = c.args.linker.now in
     let r = c.args.reveal.now in
     fact-holds c.args.fact.now c.in-Some.came l r c.fact_told.new.reveal c.in_ok-came.ensures.followed
-    (subst (IsAnswered l r c.args.fact.now) c.in-Some.is c.in_ok-came.ensures.told) (c.is_same.ensures.same c.if-is_same.true)
+    (subst (IsAnswered l r c.args.fact.now) c.in-Some.is c.in_ok-came.ensures.answered) (c.is_same.ensures.same c.if-is_same.true)
 
 pub returns-else-is_same : goal.returns-else-is_same
 returns-else-is_same c =
     let l = c.args.linker.now in
     let r = c.args.reveal.now in
-    fact-differs c.args.fact.now c.in-Some.came l r (subst (IsAnswered l r c.args.fact.now) c.in-Some.is c.in_ok-came.ensures.told)
+    fact-differs c.args.fact.now c.in-Some.came l r (subst (IsAnswered l r c.args.fact.now) c.in-Some.is c.in_ok-came.ensures.answered)
     (c.is_same.ensures.other c.if-is_same.false)
 
 pub returns-in-None : goal.returns-in-None
 returns-in-None c =
     let l = c.args.linker.now in
     let r = c.args.reveal.now in
-    untold c.args.fact.now l r (subst (IsAnswered l r c.args.fact.now) c.in-None.is c.in_ok-came.ensures.told)
+    untold c.args.fact.now l r (subst (IsAnswered l r c.args.fact.now) c.in-None.is c.in_ok-came.ensures.answered)

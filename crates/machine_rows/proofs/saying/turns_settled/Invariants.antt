@@ -1,7 +1,7 @@
 -- what is left is put behind what was put
 use Rattle.std.proofs.Common.{◌≡◌, ◌++◌, ◌-◌}
 use Rattle.machine_rows.specs.Reading.{behind, of_clocks, settles}
-use Rattle.machine_rows.proofs.saying.settled.Given as goal
+use Rattle.machine_rows.proofs.saying.turns_settled.Given as goal
 
 abbrev pub invariant-loop-clock : goal.invariant-loop-clock
 invariant-loop-clock l =

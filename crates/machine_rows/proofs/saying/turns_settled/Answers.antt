@@ -1,6 +1,6 @@
 use Rattle.machine_rows.specs.Reading.{settles}
 use Rattle.machine_rows.proofs.SayingLemmas.{clock-put}
-use Rattle.machine_rows.proofs.saying.settled.Goals as goal
+use Rattle.machine_rows.proofs.saying.turns_settled.Goals as goal
 
 pub loop-clock-preserved : goal.loop-clock-preserved
 loop-clock-preserved c =
