@@ -3,12 +3,11 @@
 ghost use Rattle.std.specs.Prelude.{◌≡◌, true, codes};
 ghost use Rattle.std.specs.Option.{option_map, option_to_list};
 ghost use Rattle.jvm_model.specs.Classes.Lookup.{field_at, first_in, method_order};
-ghost use Rattle.jvm_model.specs.Classes.Lookup.{incompatible_change, resolved_field, resolved_method};
+ghost use Rattle.jvm_model.specs.Classes.Lookup.{resolved_field, resolved_method};
 ghost use Rattle.jvm_model.specs.Classes.Lookup.{superclasses, superinterfaces, supertypes};
 ghost use Rattle.jvm_model.specs.Basis.Programs.{class_named};
-ghost use Rattle.jvm_model.specs.Basis.SharedState.{no_such_field, no_such_method};
 ghost use Rattle.class_index.specs.Members.{place_view};
-ghost use Rattle.class_linker.specs.Linkers.{class_order, error_number, inherited_order};
+ghost use Rattle.class_linker.specs.Linkers.{class_order, inherited_order};
 ghost use Rattle.class_linker.specs.Linkers.{interface_order, method_in, resolved_of};
 ghost use Rattle.class_index.specs.Members.{wanted_view};
 ghost use Rattle.class_linker.specs.LoadedClasses.{holds_class};
@@ -27,26 +26,6 @@ fn object_name() -> &'static [u16]
     ensures { result.now ≡ codes "java/lang/Object" }
 {
     &OBJECT
-}
-
-// ---- the errors, by the places of their classes
-
-fn no_such_field() -> u16
-    ensures { result ≡ error_number no_such_field }
-{
-    NO_SUCH_FIELD_ERROR
-}
-
-fn no_such_method() -> u16
-    ensures { result ≡ error_number no_such_method }
-{
-    NO_SUCH_METHOD_ERROR
-}
-
-pub fn incompatible_change() -> u16
-    ensures { result ≡ error_number incompatible_change }
-{
-    INCOMPATIBLE_CLASS_CHANGE_ERROR
 }
 
 // ---- fields
@@ -70,7 +49,7 @@ impl LoadedClasses<'_> {
     {
         match self.sought_field(class, wanted) {
             Some((declaring, position)) => Resolved::Found(declaring, position),
-            None => Resolved::Throws(no_such_field()),
+            None => Resolved::Throws(NO_SUCH_FIELD_ERROR),
         }
     }
 }
@@ -170,11 +149,11 @@ impl LoadedClasses<'_> {
             (resolved_method self.entry.index.now class interface (wanted_view wanted.now)) }
     {
         if self.index.is_interface(class) != interface {
-            return Resolved::Throws(incompatible_change());
+            return Resolved::Throws(INCOMPATIBLE_CLASS_CHANGE_ERROR);
         }
         match self.sought_method(class, wanted) {
             Some((declaring, position)) => Resolved::Found(declaring, position),
-            None => Resolved::Throws(no_such_method()),
+            None => Resolved::Throws(NO_SUCH_METHOD_ERROR),
         }
     }
 }

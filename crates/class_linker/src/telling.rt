@@ -2,32 +2,20 @@
 
 ghost use Rattle.std.specs.Prelude.{◌≡◌, drop, IfOk, OnOk};
 ghost use Rattle.std.specs.Option.{option_map};
-ghost use Rattle.jvm_model.specs.Classes.Load.{circular_class, load_of};
-ghost use Rattle.jvm_model.specs.Basis.SharedState.{no_class_definition};
-ghost use Rattle.class_linker.specs.Linkers.{answer_by, answer_of, error_number, loaded_as};
+ghost use Rattle.jvm_model.specs.Classes.Load.{load_of};
+ghost use Rattle.class_linker.specs.Linkers.{answer_by, answer_of, loaded_as};
 ghost use Rattle.class_linker.specs.Linkers.{loaded_in, stopped_by};
 ghost use Rattle.class_linker.specs.States.{IsLater, IsState, fault_view};
 
 use crate::answers::Loaded;
 use crate::kinds::kind_named;
 use crate::loading::{Fault, State, load_all};
-use crate::resolving::incompatible_change;
-use base_classes::{CLASS_CIRCULARITY_ERROR, NO_CLASS_DEF_FOUND_ERROR};
+use base_classes::{
+    CLASS_CIRCULARITY_ERROR, INCOMPATIBLE_CLASS_CHANGE_ERROR, NO_CLASS_DEF_FOUND_ERROR,
+};
 use class_index::Index;
 use jf_bytes::{NoMemory, Seq};
 use std::alloc::Global;
-
-fn no_class_definition() -> u16
-    ensures { result ≡ error_number no_class_definition }
-{
-    NO_CLASS_DEF_FOUND_ERROR
-}
-
-fn circular_class() -> u16
-    ensures { result ≡ error_number circular_class }
-{
-    CLASS_CIRCULARITY_ERROR
-}
 
 /// The classes were loaded, if there are any.
 fn loaded_as(alloc: Global, kind: u32, classes: &[u32]) -> Result<Loaded, NoMemory>
@@ -45,9 +33,9 @@ fn load_stopped(alloc: Global, fault: Fault, classes: &[u32]) -> Result<Loaded, 
 {
     let loaded = Seq::from_slice(alloc, classes)?;
     Ok(match fault {
-        Fault::NoClass(name) => Loaded::Throws(no_class_definition(), loaded, Some(name)),
-        Fault::Circular => Loaded::Throws(circular_class(), loaded, None),
-        Fault::Incompatible => Loaded::Throws(incompatible_change(), loaded, None),
+        Fault::NoClass(name) => Loaded::Throws(NO_CLASS_DEF_FOUND_ERROR, loaded, Some(name)),
+        Fault::Circular => Loaded::Throws(CLASS_CIRCULARITY_ERROR, loaded, None),
+        Fault::Incompatible => Loaded::Throws(INCOMPATIBLE_CLASS_CHANGE_ERROR, loaded, None),
     })
 }
 

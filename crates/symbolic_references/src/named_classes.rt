@@ -30,7 +30,7 @@ fn position_named(index: &Index, name: &[u16]) -> u32
 }
 
 /// The kind of the instances of the class of this name.
-pub fn kind_named(index: &Index, name: &[u16]) -> u32
+pub fn instance_kind(index: &Index, name: &[u16]) -> u32
     ensures kind { result ≡ kind_for index.now name.now }
     ensures most { result < 2 ^ 25 }
 {
@@ -43,5 +43,5 @@ pub fn kind_for(alloc: Global, index: &Index, name: &[u8]) -> Result<u32, NoMemo
     ensures most { IfOk result (λ kind. kind < 2 ^ 25) }
 {
     let name = units_of(alloc, name)?;
-    Ok(kind_named(index, name.as_slice()))
+    Ok(instance_kind(index, name.as_slice()))
 }

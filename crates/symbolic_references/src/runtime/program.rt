@@ -10,7 +10,7 @@ ghost use Rattle.member_selection.specs.Objects.{IsUsable};
 ghost use Rattle.symbolic_references.specs.ProgramFacts.{exception_kind};
 ghost use Rattle.symbolic_references.specs.Runtimes.{linker_in};
 
-use crate::named_classes::kind_named;
+use crate::named_classes::instance_kind;
 use crate::runtime::Runtime;
 use base_classes::built_in_name;
 use const_pool::Kind;
@@ -74,7 +74,7 @@ impl Runtime {
     {
         let _ = &self.tables;
         let name = units_of(self.alloc, built_in_named(place).as_bytes())?;
-        Ok(kind_named(self.linker.index(), name.as_slice()))
+        Ok(instance_kind(self.linker.index(), name.as_slice()))
     }
 
     /// The kind of the instances of an exception's class. That of one that a native method throws

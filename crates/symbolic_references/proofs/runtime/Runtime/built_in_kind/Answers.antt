@@ -8,7 +8,7 @@ use Rattle.symbolic_references.proofs.runtime.Runtime.built_in_kind.Goals as goa
 pub returns-clause-usable : goal.returns-clause-usable
 returns-clause-usable c =
     let v = c.args.self.now in
-    let is : c.kind_named.result ≡ exception_kind v.world.program (BuiltIn c.args.place) = search rules in
+    let is : c.instance_kind.result ≡ exception_kind v.world.program (BuiltIn c.args.place) = search rules in
     subst (IsUsable (linker_in v)) (sym is)
     (subst (λ (v : RuntimeView). IsUsable (linker_in v) (exception_kind v.world.program (BuiltIn c.args.place))) c.self.view_is
     (c.self.invariant.exceptions.each (BuiltIn c.args.place)))
