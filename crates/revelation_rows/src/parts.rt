@@ -6,9 +6,9 @@ ghost use Rattle.revelation_rows.specs.Files.{AreRead, IsAdded, IsOneUnread, IsU
 ghost use Rattle.revelation_rows.specs.Lines.{is_row as row_line};
 ghost use Rattle.row_words.specs.Files.{IsFileAt};
 
-use jf_bytes::{FetchError, Files, NoMemory};
+use jf_bytes::{FetchError, Files};
 use row_words::MOST;
-use std::alloc::{AllocError, AllocFailed, Global};
+use std::alloc::Global;
 use thiserror::Error;
 
 /// Why a row is not played.
@@ -31,24 +31,6 @@ pub enum RowError {
     Unknown,
     #[error("no memory")]
     NoMemory,
-}
-
-impl From<AllocError> for RowError {
-    fn from(_error: AllocError) -> RowError {
-        RowError::NoMemory
-    }
-}
-
-impl<T: Drop> From<AllocFailed<T>> for RowError {
-    fn from(_error: AllocFailed<T>) -> RowError {
-        RowError::NoMemory
-    }
-}
-
-impl From<NoMemory> for RowError {
-    fn from(_error: NoMemory) -> RowError {
-        RowError::NoMemory
-    }
 }
 
 /// The contents of the class files, and the lines of all files of rows.
