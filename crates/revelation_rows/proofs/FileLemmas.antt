@@ -1,9 +1,10 @@
 -- Files that are read, one by one.
-use Rattle.std.proofs.Common.{◌≡◌, ◌<◌, ◌+◌, ℕ, List, [], length, map, take, sym, subst}
+use Rattle.std.proofs.Common.{◌≡◌, ◌<◌, ◌+◌, ℕ, List, [], ◌∷◌, ◌++◌, length, map, take, drop, ap, sym, subst, ◌∙◌}
 use Rattle.std.specs.Prelude.{Option, get_or}
 use Rattle.jf_bytes.specs.Streams.{Told}
-use Rattle.revelation_rows.specs.Files.{AreRead, IsAdded}
-use Rattle.row_words.proofs.ListLemmas.{taken-more}
+use Rattle.revelation_rows.specs.Files.{AreRead, IsAdded, IsOneUnread, IsUnread}
+use Rattle.revelation_rows.specs.declared.parts.RowError.{RowError}
+use Rattle.row_words.proofs.ListLemmas.{parted-each, taken-more}
 
 pub none-read : (told : Option Told) (classes : List (List ℕ)) (rows : List ℕ) → classes ≡ [] → rows ≡ [] → AreRead told [] classes rows
 none-read told classes rows no_classes no_rows =
@@ -19,3 +20,13 @@ more-read f xs i x here told path classes new_classes rows new_rows less is same
     (AreRead.more (f x) (map f (take i xs)) classes rows new_classes new_rows read
     (subst (λ name. IsAdded told name classes rows new_classes new_rows) named
     (subst (λ t. IsAdded t path classes rows new_classes new_rows) same added)))
+
+pub one-unread : {A : Type 0} (f : A → List ℕ) (xs : List A) (i : ℕ) (x : A) (path : List ℕ) (error : RowError) → i < length xs → x ≡ get_or xs i x → path ≡ f x
+    → IsUnread path error → IsOneUnread (map f xs) error
+one-unread f xs i x path error less is named unread = record {
+  before = map f (take i xs);
+  path = path;
+  after = map f (drop (i + 1) xs);
+  there = parted-each f xs i x x less is ∙ ap (λ t. map f (take i xs) ++ (t ∷ map f (drop (i + 1) xs))) (sym named);
+  unread = unread;
+}

@@ -2,6 +2,9 @@
 use Rattle.std.specs.Prelude.{◌≡◌, ◌==◌, ℕ, Bool, List, [], ◌∷◌, ◌++◌, Option, codes, if◌then◌else◌}
 use Rattle.std.specs.List.{ends_with}
 use Rattle.jf_bytes.specs.Streams.{Told}
+use Rattle.std.specs.String.{string_bytes}
+use Rattle.revelation_rows.specs.declared.parts.RowError.{RowError}
+use Rattle.revelation_rows.specs.declared.parts.RowError.TheVariants.{Missing, NoMemory, NoRoot, NotAdmitted, NotRead, NotText, Unknown}
 use Rattle.row_words.specs.Files.{IsFileAt}
 
 -- a file is a class file where its name ends so, and else has rows
@@ -30,3 +33,21 @@ pub data AreRead (told : Option Told) : List (List ℕ) → List (List ℕ) → 
   more : (path : List ℕ) (paths classes : List (List ℕ)) (rows : List ℕ) (new_classes : List (List ℕ)) (new_rows : List ℕ)
       → AreRead told paths classes rows → IsAdded told path classes rows new_classes new_rows
       → AreRead told (paths ++ path ∷ []) new_classes new_rows
+
+-- the file at this path could not be fetched, or it is no text, or memory ran out
+abbrev pub IsUnread : List ℕ → RowError → Type 0
+IsUnread path (Missing name) = string_bytes name ≡ path
+IsUnread path (NotText name) = string_bytes name ≡ path
+IsUnread path NotRead = ⊥
+IsUnread path NotAdmitted = ⊥
+IsUnread path NoRoot = ⊥
+IsUnread path Unknown = ⊥
+IsUnread path NoMemory = Unit {0}
+
+-- so it is of one of these paths
+pub record IsOneUnread (paths : List (List ℕ)) (error : RowError) : Type 0 where
+  pub before : List (List ℕ)
+  pub path : List ℕ
+  pub after : List (List ℕ)
+  pub there : paths ≡ before ++ path ∷ after
+  pub unread : IsUnread path error

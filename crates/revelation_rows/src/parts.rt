@@ -1,14 +1,14 @@
 //! The files of the rows, and why a row is not played.
 
-ghost use Rattle.std.specs.Prelude.{◌≡◌, map, IfOk, OnOk};
+ghost use Rattle.std.specs.Prelude.{◌≡◌, map, IfErr, IfOk, OnOk};
 ghost use Rattle.std.specs.String.{string_bytes};
-ghost use Rattle.revelation_rows.specs.Files.{AreRead, IsAdded, is_class_path};
+ghost use Rattle.revelation_rows.specs.Files.{AreRead, IsAdded, IsOneUnread, IsUnread, is_class_path};
 ghost use Rattle.revelation_rows.specs.Lines.{is_row as row_line};
 ghost use Rattle.row_words.specs.Files.{IsFileAt};
 
-use jf_bytes::{FetchError, Files, NoMemory};
+use jf_bytes::{FetchError, Files};
 use row_words::MOST;
-use std::alloc::{AllocError, AllocFailed, Global};
+use std::alloc::Global;
 use thiserror::Error;
 
 /// Why a row is not played.
@@ -33,24 +33,6 @@ pub enum RowError {
     NoMemory,
 }
 
-impl From<AllocError> for RowError {
-    fn from(_error: AllocError) -> RowError {
-        RowError::NoMemory
-    }
-}
-
-impl<T: Drop> From<AllocFailed<T>> for RowError {
-    fn from(_error: AllocFailed<T>) -> RowError {
-        RowError::NoMemory
-    }
-}
-
-impl From<NoMemory> for RowError {
-    fn from(_error: NoMemory) -> RowError {
-        RowError::NoMemory
-    }
-}
-
 /// The contents of the class files, and the lines of all files of rows.
 #[derive(Drop)]
 pub struct Input {
@@ -58,13 +40,34 @@ pub struct Input {
     pub rows: String,
 }
 
+/// A file that could not be fetched.
+fn missing(alloc: Global, path: &str) -> RowError
+    ensures { IsUnread path.now result }
+{
+    match String::from_str(alloc, path) {
+        Ok(name) => RowError::Missing(name),
+        Err(_) => RowError::NoMemory,
+    }
+}
+
+/// A file of rows that is no text.
+fn no_text(alloc: Global, path: &str) -> RowError
+    ensures { IsUnread path.now result }
+{
+    match String::from_str(alloc, path) {
+        Ok(name) => RowError::NotText(name),
+        Err(_) => RowError::NoMemory,
+    }
+}
+
 fn fetch_file<F: Files>(alloc: Global, path: &str, files: &mut F) -> Result<Vec<u8>, RowError>
     ensures found { IfOk result (λ bytes. IsFileAt (F.contents files.old) path.now bytes.items) }
+    ensures fails { IfErr result (IsUnread path.now) }
     ensures stay { F.contents files.new ≡ F.contents files.old }
 {
     match files.fetch(alloc, path, MOST) {
         Ok(bytes) => Ok(bytes),
-        Err(FetchError::Failed) => Err(RowError::Missing(String::from_str(alloc, path)?)),
+        Err(FetchError::Failed) => Err(missing(alloc, path)),
         Err(FetchError::NoMemory) => Err(RowError::NoMemory),
     }
 }
@@ -88,17 +91,25 @@ fn add_file<F: Files>(
         let new = map (λ c. c.items) input.new.classes.items in
         OnOk result (IsAdded told path.now
         old (string_bytes input.old.rows) new (string_bytes input.new.rows)) }
+    ensures fails { IfErr result (IsUnread path.now) }
     ensures stay { F.contents files.new ≡ F.contents files.old }
 {
-    let bytes = fetch_file(alloc, path, files)?;
+    let bytes = match fetch_file(alloc, path, files) {
+        Ok(bytes) => bytes,
+        Err(error) => return Err(error),
+    };
     if is_class_path(path) {
-        input.classes.push(bytes)?;
+        let Ok(()) = input.classes.push(bytes) else {
+            return Err(RowError::NoMemory);
+        };
         return Ok(());
     }
     let Ok(text) = String::from_utf8(bytes) else {
-        return Err(RowError::NotText(String::from_str(alloc, path)?));
+        return Err(no_text(alloc, path));
     };
-    input.rows.push_str(text.as_str())?;
+    let Ok(()) = input.rows.push_str(text.as_str()) else {
+        return Err(RowError::NoMemory);
+    };
     Ok(())
 }
 
@@ -108,7 +119,9 @@ pub fn read_files<F: Files>(
     paths: &[String],
     files: &mut F,
 ) -> Result<Input, RowError>
-    ensures { let told = F.contents files.old in
+    ensures fails { let paths = map (λ path. string_bytes path) paths.now in
+        IfErr result (IsOneUnread paths) }
+    ensures read { let told = F.contents files.old in
         let paths = map (λ path. string_bytes path) paths.now in
         IfOk result (λ input. AreRead told paths
         (map (λ c. c.items) input.classes.items) (string_bytes input.rows)) }
@@ -118,7 +131,10 @@ pub fn read_files<F: Files>(
         rows: String::new(alloc),
     };
     for path in paths {
-        add_file(alloc, &mut input, path.as_str(), files)?;
+        match add_file(alloc, &mut input, path.as_str(), files) {
+            Ok(()) => {}
+            Err(error) => return Err(error),
+        }
     }
     Ok(input)
 }

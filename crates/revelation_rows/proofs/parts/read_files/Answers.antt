@@ -1,6 +1,6 @@
 use Rattle.std.proofs.Common.{ap, map, refl, ◌∙◌}
 use Rattle.std.specs.String.{string_bytes}
-use Rattle.revelation_rows.proofs.FileLemmas.{more-read, none-read}
+use Rattle.revelation_rows.proofs.FileLemmas.{more-read, none-read, one-unread}
 use Rattle.revelation_rows.proofs.parts.read_files.Goals as goal
 
 pub loop-path-init : goal.loop-path-init
@@ -11,5 +11,10 @@ loop-path-preserved g c = (
   c.add_file.ensures.stay ∙ c.loop-path.invariant.0,
   more-read (λ path. string_bytes path) c.args.paths.now c.loop-path.path-index c.path-item.result _ _ _ _ _ _ _
       c.loop-path-test.true c.path-item.is c.loop-path.invariant.0 c.as_str.ensures.value c.loop-path.invariant.1
-      c.in_ok-add_file.ensures.added,
+      c.in-Ok.ensures.added,
 )
+
+pub returns-in-Err-clause-fails : goal.returns-in-Err-clause-fails
+returns-in-Err-clause-fails g c =
+    one-unread (λ path. string_bytes path) c.args.paths.now c.loop-path.path-index c.path-item.result _ c.in-Err.error
+    c.loop-path-test.true c.path-item.is c.as_str.ensures.value c.in-Err.ensures.fails
