@@ -49,7 +49,7 @@ use Rattle.admit_check.specs.Shapes.{shape_fault}
 use Rattle.code_model.specs.Groups.{is_start}
 use Rattle.code_admission.proofs.Decoded.{reading_is_read}
 use Rattle.stackmap_shift.proofs.FramesRead.{frames_of-writable}
-use Rattle.jvm_model.proofs.Running.Starts.{code-among}
+use Rattle.jvm_model.proofs.Running.FormedCodes.{code-among}
 
 -- ---- starts
 

@@ -8,7 +8,7 @@ ghost use Rattle.const_pool.specs.References.{name_type_of};
 ghost use Rattle.jvm_model.specs.Basis.Methods.{code_of, is_member, method_named};
 ghost use Rattle.jvm_model.specs.Basis.Programs.{coded_from, declared_method, has_name, number_from};
 ghost use Rattle.jvm_model.specs.Basis.Programs.{methods_numbered, same_place};
-ghost use Rattle.jvm_model.specs.Small.SmallClass.{is_public_static, main_member, public_static};
+ghost use Rattle.jvm_model.specs.Basis.MainMethod.{is_public_static, main_member, public_static};
 ghost use Rattle.admit_check.specs.Admission.{act_of, acts_from};
 ghost use Rattle.admit_check.specs.Stages.{Answers, HasNumbers};
 ghost use Rattle.admit_check.specs.Admission.{root_in};

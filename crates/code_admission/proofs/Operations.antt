@@ -34,7 +34,7 @@ use Rattle.jvm_model.specs.Basis.Families.{family_of, rows}
 use Rattle.jvm_model.specs.Classes.Kinds.{meaning_of}
 use Rattle.jvm_model.specs.Codes.Lines.{pool_constant_operation, has_dimensions, interface_reference, array_reference, multi_of, named_by, named_interface_method, symbolic_reference_of, newarray_of, number_of, object_among, object_constant, object_rows, operation_by, operation_of, other_operation, special_of}
 use Rattle.jvm_model.specs.Basis.Programs.{name_of}
-use Rattle.jvm_model.proofs.Running.Opcodes.{all_below, all_below-each}
+use Rattle.jvm_model.proofs.Running.AllBelow.{all_below, all_below-each}
 use Rattle.code_admission.specs.Floating.{is_floating_entry, is_floating_index, is_floating_instr, is_floating_operand}
 use Rattle.code_admission.specs.Texts.{dimensions_of, is_class_name}
 use Rattle.code_admission.specs.Uses.{fits_pool, fits_type, fits_use, is_loadable, is_wide_constant, named_dimensions, pool_use}

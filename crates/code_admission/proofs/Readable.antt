@@ -8,7 +8,7 @@ use Rattle.const_pool.specs.declared.class.Member.{Member}
 use Rattle.const_pool.specs.declared.class.CodeAttribute.{CodeAttribute}
 use Rattle.const_pool.specs.ClassFile.{IsCode, IsMember, IsMethodAttribute, IsClassFile}
 use Rattle.jvm_model.specs.Basis.Methods.{code_of}
-use Rattle.jvm_model.proofs.Running.Starts.{code-among}
+use Rattle.jvm_model.proofs.Running.FormedCodes.{code-among}
 use Rattle.code_admission.specs.Codes.{IsRead, AreRead}
 use Rattle.code_admission.proofs.Decoded.{reading_found}
 use Rattle.inject_events.specs.Answers.{IsReadableBody, IsReadableClass}

@@ -35,6 +35,7 @@ use Rattle.jvm_model.specs.Rewriting.Images.{all_off, next_number, with_code_amo
 use Rattle.jvm_model.specs.Basis.Methods.{code_of}
 use Rattle.jvm_model.specs.Rewriting.Versions.{probe_bytes, group_of, moved_handler, catch_all}
 use Rattle.jvm_model.proofs.Images.ImagePools.{named_text-more}
+use Rattle.jvm_model.proofs.Running.FormedCodes.{code-among}
 use Rattle.stackmap_shift.specs.declared.error.FrameError.{FrameError}
 use Rattle.stackmap_shift.specs.declared.frames.Frame.{Frame}
 use Rattle.stackmap_shift.specs.Frames.{frames_of}
@@ -53,7 +54,6 @@ use Rattle.inject_events.specs.Rewriting.{instrs_in, laid_version_of, version_of
 use Rattle.inject_events.specs.Settings.{setting_of, probes_in, entry_in}
 use Rattle.jvm_model.specs.Rewriting.ImageTables.{last_frame, is_writable}
 use Rattle.inject_events.specs.Tables.{table_of, version_frames, framed_or_kept, moved_table, moved_raw, lacks_frames, added_table, added_tables}
-use Rattle.inject_events.proofs.Built.{IsCode-among}
 use Rattle.inject_events.proofs.InstrsIn.{instrs_in-is}
 use Rattle.inject_events.proofs.LaidBytes.{AreBytes, both, probe, laid, home-le, table, moved-lines, moved-variables}
 use Rattle.inject_events.proofs.Rooms.{IsMadeWhole-none, none_of}
@@ -273,7 +273,7 @@ coded-formed c number mark m None room coded is body none = member-more IsMethod
 coded-formed c number mark m (Some old) room coded is body none =
     let more : List Const = tail_entries (length c.pool) in
     let new : CodeAttribute = (version_of (setting_of c) number mark old).code in
-    let formed = version-formed c number mark old room (IsCode-among c.pool m.attributes old is.attributes coded) body none in
+    let formed = version-formed c number mark old room (code-among c.pool m.attributes old is.attributes coded) body none in
     let same = with-count new m.attributes in
     record {
       access = is.access;

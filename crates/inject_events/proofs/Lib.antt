@@ -1,6 +1,5 @@
 pub mod Laying
 pub mod Images
-pub mod Built
 pub mod Framing
 pub mod InstrsIn
 pub mod Tabling

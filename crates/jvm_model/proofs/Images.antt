@@ -1,7 +1,7 @@
 pub mod ImagePools
 pub mod ImageMethods
 pub mod ImageProbes
-pub mod ImageLines
+pub mod GroupedInstrs
 pub mod LaidLengths
 pub mod MethodsOfImages
 pub mod ImageSizes

@@ -1,6 +1,6 @@
 pub mod Shapes
-pub mod Opcodes
-pub mod Starts
+pub mod AllBelow
+pub mod FormedCodes
 pub mod Settles
 pub mod NormalForms
 pub mod LoopOfMoves

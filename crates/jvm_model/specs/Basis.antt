@@ -1,6 +1,7 @@
 pub mod Descriptors
 pub mod Methods
 pub mod MemberNames
+pub mod MainMethod
 pub mod Data
 pub mod Families
 pub mod Values

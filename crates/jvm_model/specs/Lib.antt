@@ -7,4 +7,3 @@ pub mod Rewriting
 pub mod Turns
 pub mod Profiling
 pub mod Soundness
-pub mod Small

@@ -3,4 +3,3 @@ pub mod Versions
 pub mod ImageTables
 pub mod Images
 pub mod StandsFor
-pub mod Agreement

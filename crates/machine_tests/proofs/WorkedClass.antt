@@ -1,5 +1,5 @@
 -- The worked class P1 can be rewritten.
-use Rattle.std.proofs.Common.{◌≡◌, ℕ, zero, suc, ◌<◌, ◌≤◌, ◌^◌, Bool, true, false, List, [], ◌∷◌, length, drop, Some, None, refl, ap, subst, inr, arith}
+use Rattle.std.proofs.Common.{◌≡◌, ℕ, zero, suc, ◌<◌, ◌≤◌, ◌^◌, Bool, true, false, List, [], ◌∷◌, length, drop, refl, ap, subst, inr, arith}
 use Rattle.std.specs.Prelude.{nat_lt, pos, ◌&&◌, slice_get}
 use Rattle.std.specs.List.{AllByRecursion, list_all}
 use Rattle.std.specs.Option.{option_map_or}
@@ -8,22 +8,18 @@ use Rattle.std.proofs.lemmas.Option.{same_Some, none-some}
 use Rattle.jf_bytes.specs.ModifiedUtf8.{modified_utf8}
 use Rattle.const_pool.specs.declared.pool.Const.{Const}
 use Rattle.const_pool.specs.declared.pool.Const.TheVariants.{Gap, Utf8, Integer, Float, Long, Double, Class, Text, Field, Method, InterfaceMethod, NameType}
-use Rattle.const_pool.specs.declared.descriptor.Kind.TheVariants.{Int, Ref}
 use Rattle.const_pool.specs.declared.class.Member.{Member}
 use Rattle.const_pool.specs.Pool.{is_utf8, is_class, is_name_type, Names, IsEntry, AreEntries}
 use Rattle.const_pool.specs.ClassFile.{code_bytes, class_bytes, IsByte, IsCode, IsMember, IsMethodAttribute, IsClassFile}
-use Rattle.jvm_model.specs.Basis.Families.{family_of, rows}
-use Rattle.jvm_model.specs.Small.PlainShape.{IsPlainCode, HasPlainShape}
 use Rattle.code_model.specs.declared.instr.Arg.TheVariants.{Plain as no_operand, Value, Pool as index}
 use Rattle.code_model.specs.declared.instr.Code.{Code}
 use Rattle.op_table.specs.Opcodes.{row_of, groups}
 use Rattle.code_model.specs.Operands.{instr_with}
 use Rattle.code_model.specs.Reading.{read_instruction, behind_opcode_at, operand_at, value_at, index_at, signed_at, number_at}
 use Rattle.code_model.specs.Instructions.{instruction_at, IsReading}
-use Rattle.jvm_model.specs.Small.SmallClass.{IsSmallMethod}
 use Rattle.jvm_model.proofs.Worked.PlainRun.{p1, p1_pool, code_with, method_with}
-use Rattle.jvm_model.specs.Rewriting.StandsFor.{IsBuilt}
 use Rattle.class_reader.specs.Files.{IsFile}
+use Rattle.inject_events.specs.Answers.{IsReadableBody, HasReadableBody, HaveReadableBodies, IsReadableClass}
 
 abbrev pub f_bytes : List ℕ
 f_bytes = 26 ∷ 4 ∷ 96 ∷ 172 ∷ []
@@ -90,20 +86,6 @@ AreEntries-fit pool (InterfaceMethod c n ∷ rest) e = let both = and_parts (ent
 p1_entries : (rest : List Const) → p1_pool ≡ Gap ∷ rest → AreEntries p1_pool rest
 p1_entries rest e = let is : drop 1 p1_pool ≡ rest = ap (drop 1) e in subst (AreEntries p1_pool) is (AreEntries-fit p1_pool (drop 1 p1_pool) refl)
 
--- ---- the plain shape
-
-plain_code : (bytes : List ℕ) → length bytes ≤ 9000 → IsPlainCode (code_with bytes)
-plain_code bytes short = record { stack = omega arith; short = short; handlers = refl }
-
-p1_plain : HasPlainShape p1
-p1_plain = record {
-  count = omega arith;
-  interfaces = refl;
-  fields = refl;
-  few = omega arith;
-  methods = (plain_code f_bytes (omega arith), (plain_code main_bytes (omega arith), tt));
-}
-
 -- ---- the format
 
 formed_code : (bytes : List ℕ) → 0 < length bytes → length bytes ≤ 9000 → AllByRecursion IsByte bytes → length (code_bytes (code_with bytes)) < 2 ^ 32 → IsCode p1_pool (code_with bytes)
@@ -159,7 +141,7 @@ p1_formed = record {
 pub p1_file : IsFile (class_bytes p1) p1
 p1_file = record { short = omega arith; spells = record { spelled = refl; formed = p1_formed } }
 
--- ---- a small class
+-- ---- its methods
 
 abbrev pub f_member : Member
 f_member = method_with 11 12 f_bytes
@@ -183,40 +165,15 @@ pub main_reads : IsReading main_bytes main_reading
 unfolding instruction_at read_instruction behind_opcode_at operand_at value_at index_at signed_at number_at row_of groups
 main_reads = record { instrs = (refl, (refl, (refl, (refl, (refl, refl))))); len = refl }
 
-f_small : IsSmallMethod p1 0 f_member
-unfolding family_of rows
-f_small = record {
-  access = refl;
-  named = refl;
-  first = refl;
-  shape = record { params = Int ∷ []; result = Some Int };
-  shaped = refl;
-  code = code_with f_bytes;
-  coded = refl;
-  small = record { reading = f_reading; reads = f_reads; small = refl; ends = refl; fits = omega arith };
-}
+-- ---- it can be rewritten
 
-main_small : IsSmallMethod p1 1 main_member
-unfolding family_of rows
-main_small = record {
-  access = refl;
-  named = refl;
-  first = refl;
-  shape = record { params = Ref ∷ []; result = None };
-  shaped = refl;
-  code = code_with main_bytes;
-  coded = refl;
-  small = record { reading = main_reading; reads = main_reads; small = refl; ends = refl; fits = omega arith };
-}
+readable : (bytes : List ℕ) (reading : Code) → 0 < length bytes → length bytes ≤ 9000 → IsReading bytes reading → IsReadableBody (code_with bytes)
+readable bytes reading some short reads = record { readable = record { some = some; short = omega arith; reading = reading; reads = reads }; handlers = omega arith }
 
-p1_methods : (k : ℕ) (m : Member) → slice_get p1.methods k ≡ Some m → IsSmallMethod p1 k m
-p1_methods zero m at = subst (IsSmallMethod p1 0) (same_Some f_member m at) f_small
-p1_methods (suc zero) m at = subst (IsSmallMethod p1 1) (same_Some main_member m at) main_small
-p1_methods (suc (suc k)) m at = absurd (none-some m at)
+p1_bodies : HaveReadableBodies p1.methods
+p1_bodies zero m at = subst HasReadableBody (same_Some f_member m at) (readable f_bytes f_reading (omega arith) (omega arith) f_reads)
+p1_bodies (suc zero) m at = subst HasReadableBody (same_Some main_member m at) (readable main_bytes main_reading (omega arith) (omega arith) main_reads)
+p1_bodies (suc (suc k)) m at = absurd (none-some m at)
 
-pub p1_built : IsBuilt p1
-p1_built = record {
-  formed = p1_formed;
-  plain = p1_plain;
-  small = record { name = refl; super = refl; class = refl; methods = p1_methods };
-}
+pub p1_readable : IsReadableClass p1
+p1_readable = record { few = omega arith; bodies = p1_bodies }

@@ -25,7 +25,7 @@ use Rattle.jvm_model.specs.Basis.Families.{family_of, rows}
 use Rattle.jvm_model.specs.Codes.Lines.{ObjectRow, constant_in, pool_constant_operation, has_dimensions, increment_in, interface_reference, keys_in, array_reference, named_by, symbolic_reference_of, newarray_of, object_among, object_constant, object_constant_in, object_rows, operation_by, operation_of, other_operation, slot_in, target_in, value_in}
 use Rattle.jvm_model.specs.Turns.StepPauses.{is_return}
 use Rattle.jvm_model.specs.Rewriting.Versions.{is_return_opcode}
-use Rattle.jvm_model.proofs.Running.Opcodes.{all_below, all_below-each}
+use Rattle.jvm_model.proofs.Running.AllBelow.{all_below, all_below-each}
 use Rattle.jvm_model.specs.Instructions.ObjectRules.{array_kind}
 
 -- ---- by the family of an opcode

@@ -37,7 +37,7 @@ use Rattle.jvm_model.specs.Codes.ProgramPlaces.{IsClosedCode, IsStartOrEnd}
 use Rattle.jvm_model.specs.Rewriting.StandsFor.{mark_at}
 use Rattle.jvm_model.specs.Rewriting.Versions.{is_return_opcode}
 use Rattle.jvm_model.proofs.Relocated.PlacesOf.{places-of}
-use Rattle.jvm_model.proofs.Running.Starts.{Reads-nth}
+use Rattle.jvm_model.proofs.Running.FormedCodes.{Reads-nth}
 use Rattle.code_model.proofs.Reading.Readings.{instruction_at_within}
 use Rattle.jvm_machine.specs.declared.advancing.Telling.TheVariants as telling
 use Rattle.jvm_machine.specs.Advances.{Stops, told_in}

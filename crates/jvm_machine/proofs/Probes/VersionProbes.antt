@@ -14,7 +14,7 @@ use Rattle.code_model.specs.Layout.{end_from, home_of, laid_of}
 use Rattle.code_model.proofs.CodeLayouts.Layouts.{back_stands, front_stands, groups_stand, home_in-end}
 use Rattle.jvm_model.specs.declared.event.Mark.{Mark}
 use Rattle.jvm_model.specs.Rewriting.Versions.{IsVersion, entry_probe, group_of, groups_of, is_return_opcode, leave_probe, probe_bytes, unwind_code}
-use Rattle.jvm_model.proofs.Images.ImageLines.{instrs-groups}
+use Rattle.jvm_model.proofs.Images.GroupedInstrs.{instrs-groups}
 use Rattle.jvm_machine.specs.Probes.{HasBytes}
 
 module _ (count number : ℕ) (mark : Mark) (old new : CodeAttribute) (homes : Homes) (is : IsVersion count number mark old new homes) where

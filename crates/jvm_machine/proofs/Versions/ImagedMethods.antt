@@ -36,7 +36,7 @@ use Rattle.jvm_model.specs.Rewriting.StandsFor.{mark_at}
 use Rattle.jvm_model.specs.Profiling.Swaps.{first_number}
 use Rattle.jvm_model.specs.Rewriting.Versions.{IsVersion, entry_probe, groups_of, laid_version, leave_probe}
 use Rattle.jvm_model.specs.Soundness.Whole.{instrs_of}
-use Rattle.jvm_model.proofs.Images.ImageLines.{instrs-groups}
+use Rattle.jvm_model.proofs.Images.GroupedInstrs.{instrs-groups}
 use Rattle.jvm_model.proofs.Images.ImageMethods.{code_of-marked}
 use Rattle.jvm_model.proofs.Images.ImagePools.{named_class-more}
 use Rattle.jvm_model.proofs.Images.MethodsOfImages.{HasCodeFor, HasMarkedCode, HasVersion, StaysLike, image-code, image-stays}
@@ -44,7 +44,7 @@ use Rattle.jvm_model.proofs.Soundness.MoreEntries.{operation-more}
 use Rattle.jvm_model.proofs.Images.NumbersOfMethods.{place-behind}
 use Rattle.jvm_model.proofs.Soundness.PoolTexts.{have-texts, named-there}
 use Rattle.jvm_model.specs.Codes.ProgramPlaces.{HasClosedCodes}
-use Rattle.jvm_model.proofs.Running.Starts.{code-among, bytes-each}
+use Rattle.jvm_model.proofs.Running.FormedCodes.{code-among, bytes-each}
 use Rattle.prepared_code.specs.ClassVersions.{AreRising, FitsImage, class_version, homes_at, version_by}
 use Rattle.prepared_code.specs.LaidMethods.{NamesClass}
 use Rattle.prepared_code.specs.Prepared.{HasShortCode, HasShortCodes}

@@ -13,7 +13,7 @@ use Rattle.const_pool.specs.declared.pool.PoolError.TheVariants.{BadIndex, Wrong
 use Rattle.const_pool.specs.Pool.{entry_of, entry_at}
 use Rattle.const_pool.specs.References.{◌>>=◌, entry_walk, text_entry, text_walk, class_entry, class_walk, NameAndType, name_type_entry, name_type_walk, Reference, reference_walk, member_entry, member_walk, named_text, named_class, named_member, is_field, is_method, named_field, named_method}
 use Rattle.jvm_model.specs.Codes.Lines.{is_interface_method, named_interface_method}
-use Rattle.const_pool.specs.Tail.{tail_entries, with_tail, root_index, enter_index, leave_index}
+use Rattle.const_pool.specs.Tail.{tail_entries, with_tail, root_index, enter_index}
 
 -- ---- chains of look-ups
 
@@ -178,6 +178,3 @@ root-named pool = probe-at pool 3 (codes "root") refl refl refl
 
 pub enter-named : (pool : List Const) → named_method (with_tail pool) (enter_index (length pool)) ≡ Some (probe_reference (codes "enter"))
 enter-named pool = probe-at pool 6 (codes "enter") refl refl refl
-
-pub leave-named : (pool : List Const) → named_method (with_tail pool) (leave_index (length pool)) ≡ Some (probe_reference (codes "leave"))
-leave-named pool = probe-at pool 9 (codes "leave") refl refl refl

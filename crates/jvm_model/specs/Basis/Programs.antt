@@ -1,5 +1,5 @@
 -- Looking up classes and methods of a program by their names and numbers (JVM Specification 4.1, 4.6, 5.4.3).
-use Rattle.std.specs.Prelude.{ℕ, ◌+◌, Bool, false, List, [], ◌∷◌, ◌++◌, Option, Some, None, is_some, position, slice_get, unwrap_or, codes, ◌==◌, ◌&&◌, if◌then◌else◌}
+use Rattle.std.specs.Prelude.{ℕ, ◌+◌, Bool, false, List, [], ◌∷◌, ◌++◌, Option, Some, None, is_some, position, slice_get, codes, ◌==◌, ◌&&◌, if◌then◌else◌}
 use Rattle.std.specs.List.{list_any}
 use Rattle.std.specs.Option.{option_and_then, option_map_or}
 use Rattle.const_pool.specs.declared.class.ClassFile.{ClassFile}
@@ -51,10 +51,6 @@ super_name p class = option_and_then (λ (c : ClassFile). named_class c.pool c.s
 
 abbrev pub super_of : Program → ℕ → Option ℕ
 super_of p class = option_and_then (class_named p) (super_name p class)
-
--- the class that a program begins with: the first of its own
-abbrev pub first_class : Program → ClassFile
-first_class p = unwrap_or (class_at p 0) no_class
 
 -- the class has the name of a built-in one
 abbrev pub has_built_in_name : ClassFile → Bool

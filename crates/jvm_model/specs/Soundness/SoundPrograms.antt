@@ -13,7 +13,7 @@ use Rattle.jvm_model.specs.Basis.Data.{MethodPlace, Program}
 use Rattle.jvm_model.specs.Codes.Lines.{operation_of}
 use Rattle.jvm_model.specs.Basis.Methods.{method_code, method_named}
 use Rattle.jvm_model.specs.Basis.Programs.{class_at, class_named, has_built_in_name, number_of_method, methods_numbered, place_of_method}
-use Rattle.jvm_model.specs.Small.SmallClass.{main_member, public_static}
+use Rattle.jvm_model.specs.Basis.MainMethod.{main_member, public_static}
 use Rattle.jvm_model.specs.Soundness.Sound.{IsFit}
 use Rattle.jvm_model.specs.Soundness.Whole.{HasSoundCodes, instrs_of}
 

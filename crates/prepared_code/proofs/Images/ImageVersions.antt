@@ -15,7 +15,7 @@ use Rattle.jvm_model.specs.Codes.Lines.{code_instruction}
 use Rattle.jvm_model.specs.Codes.Moved.{IsPlace}
 use Rattle.jvm_model.specs.Codes.Originals.{catcher_of, original}
 use Rattle.jvm_model.specs.Rewriting.Versions.{IsVersion, catch_all, entry_probe, group_of, is_return_opcode, laid_version, leave_probe, moved_handler, unwind_code}
-use Rattle.jvm_model.proofs.Images.ImageLines.{instrs-groups}
+use Rattle.jvm_model.proofs.Images.GroupedInstrs.{instrs-groups}
 use Rattle.prepared_code.specs.LaidMethods.{CanBeLaid, NamesClass}
 use Rattle.prepared_code.specs.Rewritten.{rewritten_version}
 use Rattle.prepared_code.specs.VersionListings.{IsVersionOf}

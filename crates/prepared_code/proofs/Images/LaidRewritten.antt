@@ -27,7 +27,7 @@ use Rattle.jvm_model.specs.Codes.Moved.{IsPlace, moved_instruction}
 use Rattle.jvm_model.specs.Codes.Originals.{catcher_of, original}
 use Rattle.jvm_model.specs.Rewriting.Versions.{group_of, moved_handler}
 use Rattle.jvm_model.proofs.Events.Chains.{slice_get_at}
-use Rattle.jvm_model.proofs.Images.ImageLines.{instrs-groups}
+use Rattle.jvm_model.proofs.Images.GroupedInstrs.{instrs-groups}
 use Rattle.jvm_model.specs.Codes.Homed.{IsHomed, homed_instruction, instruction_for, start_in, with_own}
 use Rattle.prepared_code.specs.VersionListings.{HasOperation}
 use Rattle.jvm_model.proofs.Images.HomedListings.{homed-at, nth-map}

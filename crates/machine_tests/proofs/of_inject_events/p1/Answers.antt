@@ -8,8 +8,7 @@ use Rattle.class_reader.specs.Files.{IsFile}
 use Rattle.jf_bytes.specs.Results.{IsUnless}
 use Rattle.jvm_model.proofs.Worked.PlainRun.{p1}
 use Rattle.inject_events.specs.Answers.{IsReadableClass}
-use Rattle.inject_events.proofs.Built.{IsReadableClass-built}
-use Rattle.machine_tests.proofs.WorkedClass.{p1_built, p1_file}
+use Rattle.machine_tests.proofs.WorkedClass.{p1_file, p1_readable}
 use Rattle.machine_tests.proofs.of_inject_events.p1.Goals as goal
 
 of_p1 : (P : ClassFile → Type 0) (result : Result ClassFile ReadError) → IsUnless result (Ok p1) NoMemory → P p1 → IfOk result P
@@ -18,7 +17,7 @@ of_p1 P result (inr e) holds = subst (λ r. IfOk r P) (sym e) tt
 
 pub returns-clause-readable : goal.returns-clause-readable
 returns-clause-readable c =
-    of_p1 IsReadableClass c.read_class.result (c.read_class.ensures.only p1 (subst (λ bytes. IsFile bytes p1) (sym c.p1_bytes.ensures) p1_file)) (IsReadableClass-built p1 p1_built)
+    of_p1 IsReadableClass c.read_class.result (c.read_class.ensures.only p1 (subst (λ bytes. IsFile bytes p1) (sym c.p1_bytes.ensures) p1_file)) p1_readable
 
 pub returns-clause-methods : goal.returns-clause-methods
 returns-clause-methods c =
