@@ -1,9 +1,9 @@
 -- When an instruction is left to others, when it throws, and which operand it has.
-use Rattle.std.specs.Prelude.{◌≡◌, ℕ, Bool, true, false, IsTrue, List, Option, Some, None, is_some, ◌==◌, ◌||◌, ℤ, pos}
+use Rattle.std.specs.Prelude.{◌≡◌, ℕ, Bool, true, false, IsTrue, List, Option, Some, None, is_some, not, ◌||◌, ℤ, pos}
 use Rattle.std.specs.Ordering.{int_eq}
 use Rattle.std.specs.Int.{is_in_range}
 use Rattle.op_table.specs.declared.Form.{Form}
-use Rattle.op_table.specs.declared.Form.TheVariants.{Wide, Unknown}
+use Rattle.op_table.specs.declared.Form.TheVariants.{Array, Interface, Multi, Pool, Wide, Unknown}
 use Rattle.op_table.specs.Opcodes.{row_of}
 use Rattle.code_model.specs.declared.instr.Arg.{Arg}
 use Rattle.code_model.specs.declared.instr.Instr.{Instr}
@@ -12,7 +12,7 @@ use Rattle.jvm_model.specs.declared.family.Family.{Family}
 use Rattle.jvm_model.specs.declared.family.Family.TheVariants.{DivisionOfInts, DivisionOfLongs, OperandConstant, Load, Store, Ret, Iinc, Branch, Goto, Jsr, Switch}
 use Rattle.jvm_model.specs.Basis.Data.{Operands}
 use Rattle.jvm_model.specs.Basis.Families.{family_of}
-use Rattle.jvm_model.specs.Codes.Lines.{value_in, slot_in, increment_in, target_in, keys_in}
+use Rattle.jvm_model.specs.Codes.Lines.{value_in, slot_in, increment_in, target_in, keys_in, object_among, object_rows}
 use Rattle.jvm_model.specs.Basis.Values.{ints_of, longs_of}
 
 abbrev pub is_no_instruction : Form → Bool
@@ -20,13 +20,21 @@ is_no_instruction Wide = true
 is_no_instruction Unknown = true
 is_no_instruction _ = false
 
--- The opcodes that a frame does not do by itself (6.5): array loads, array stores, returns and what names a member or a
--- class up to monitorexit, multianewarray; what takes or gives a float or a double; and what is no instruction, as
--- `wide` alone.
+-- Its operand names a member, a class or the type of an array; of what is named by an entry of the pool ldc_w and
+-- ldc2_w load a constant.
+abbrev pub names_something : ℕ → Form → Bool
+names_something op Pool = not (is_in_range 19 20 op)
+names_something op Interface = true
+names_something op Multi = true
+names_something op Array = true
+names_something op _ = false
+
+-- The opcodes that a frame does not do by itself (6.5): returns, what takes or gives a float or a double, what is no
+-- instruction, as `wide` alone, what names something, and what is done with an object that it finds among the operands.
 abbrev pub is_elsewhere : ℕ → Bool
 is_elsewhere op =
-    is_in_range 46 53 op || (is_in_range 79 86 op || (is_in_range 172 195 op
-    || ((op == 197) || ((row_of op).floating || is_no_instruction (row_of op).form))))
+    (row_of op).returns || ((row_of op).floating || (is_no_instruction (row_of op).form
+    || (names_something op (row_of op).form || is_some (object_among object_rows op))))
 
 abbrev pub has_zero_divisor : Option (ℤ × ℤ) → Bool
 has_zero_divisor None = false

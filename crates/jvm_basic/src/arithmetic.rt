@@ -10,11 +10,12 @@ ghost use Rattle.jvm_basic.specs.Rules.{calculates, calculates_long, shifts};
 ghost use Rattle.jvm_basic.specs.Rules.{divides_longs, converts_int, converts_long};
 
 use crate::effect::Effect;
+use crate::instruction::value_of;
 use crate::moving::{exchange_two, replace, replace_two};
 use crate::reading::{int_of, ints_of, long_and_int_of, long_of, longs_of};
 use base_classes::ARITHMETIC_EXCEPTION;
 use frame_stack::Frames;
-use heap_objects::Value;
+use heap_objects::{Datum, Value};
 use int_ops::{
     add_i32, add_i64, and_i32, and_i64, cmp_i64, div_i32, div_i64, i2b, i2c, i2l, i2s, l2i,
     mul_i32, mul_i64, neg_i32, neg_i64, or_i32, or_i64, rem_i32, rem_i64, shl_i32, shl_i64,
@@ -83,24 +84,24 @@ fn divided_long(op: Division, a: i64, b: i64) -> Option<i64>
     }
 }
 
-fn of_int(op: OfInt, n: i32) -> Value
+fn of_int(op: OfInt, n: i32) -> Datum
     ensures { result ≡ of_int op n }
 {
     match op {
-        OfInt::Ineg => Value::Int(neg_i32(n)),
-        OfInt::I2l => Value::Long(i2l(n)),
-        OfInt::I2b => Value::Int(i2b(n)),
-        OfInt::I2c => Value::Int(i2c(n)),
-        OfInt::I2s => Value::Int(i2s(n)),
+        OfInt::Ineg => Datum::Int(neg_i32(n)),
+        OfInt::I2l => Datum::Long(i2l(n)),
+        OfInt::I2b => Datum::Int(i2b(n)),
+        OfInt::I2c => Datum::Int(i2c(n)),
+        OfInt::I2s => Datum::Int(i2s(n)),
     }
 }
 
-fn of_long(op: OfLong, n: i64) -> Value
+fn of_long(op: OfLong, n: i64) -> Datum
     ensures { result ≡ of_long op n }
 {
     match op {
-        OfLong::Lneg => Value::Long(neg_i64(n)),
-        OfLong::L2i => Value::Int(l2i(n)),
+        OfLong::Lneg => Datum::Long(neg_i64(n)),
+        OfLong::L2i => Datum::Int(l2i(n)),
     }
 }
 
@@ -193,7 +194,7 @@ pub fn convert_int(frames: &mut Frames, op: OfInt, next: u16) -> Effect
     let Some(n) = int_of(frames) else {
         return Effect::Bad;
     };
-    replace(frames, of_int(op, n), next)
+    replace(frames, value_of(of_int(op, n)), next)
 }
 
 /// lneg, l2i.
@@ -204,5 +205,5 @@ pub fn convert_long(frames: &mut Frames, op: OfLong, next: u16) -> Effect
     let Some(n) = long_of(frames) else {
         return Effect::Bad;
     };
-    replace(frames, of_long(op, n), next)
+    replace(frames, value_of(of_long(op, n)), next)
 }

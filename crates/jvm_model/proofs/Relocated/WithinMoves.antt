@@ -11,7 +11,7 @@ use Rattle.const_pool.specs.declared.descriptor.Kind.TheVariants as kind
 use Rattle.int_ops.specs.Arithmetic.{wrapped_sum}
 use Rattle.frame_stack.specs.Widths.{is_long, width}
 use Rattle.frame_stack.specs.FrameLists.{is_long_slot, without_long_before, with_value as with_slot}
-use Rattle.jvm_model.specs.Basis.Data.{Datum, Value, Locals, Operands, IntOperator, LongOperator, Division, LongShift, OfInt, Ineg, I2l, I2b, I2c, I2s, OfLong, Lneg, L2i, Test, WithZero, OfInts, OfReferences, IsNull, StackForm, Keys, Local, Nop, Constant, Load, Store, ManageStack, BinaryOfInts, BinaryOfLongs, DivisionOfInts, DivisionOfLongs, ShiftOfLong, UnaryOfInt, UnaryOfLong, Lcmp, Iinc, Branch, Goto, Switch, Jsr, Ret, Return, Next, Outcome, GoesOn, Breaks}
+use Rattle.jvm_model.specs.Basis.Data.{Datum, Value, Locals, Operands, IntOperator, LongOperator, Division, LongShift, OfInt, OfLong, Test, WithZero, OfInts, OfReferences, IsNull, StackForm, Keys, Local, Nop, Constant, Load, Store, ManageStack, BinaryOfInts, BinaryOfLongs, DivisionOfInts, DivisionOfLongs, ShiftOfLong, UnaryOfInt, UnaryOfLong, Lcmp, Iinc, Branch, Goto, Switch, Jsr, Ret, Return, Next, Outcome, GoesOn, Breaks}
 use Rattle.jvm_model.specs.Basis.Values.{as_value, datum_of, has_kind, local_loaded, is_storable, local_in, has_slots, local_stored, with_value, same_width, has_form, puts_on, managed_stack}
 use Rattle.jvm_model.specs.Basis.StackForms.{forms_of}
 use Rattle.jvm_model.specs.Instructions.LocalRules.{pushes, leaves, stores, increments, number_divided, of_int, of_long, calculates, calculates_long, shifts, compares_longs, divides_these, divides_ints, divides_longs, converts_int, converts_long, where_if, holds, tests, goes_if, branches, switches, goes_back, returns_datum, returns, within}
@@ -206,23 +206,12 @@ module _ (h : ℕ → ℕ) where
   divides_longs-moves op l (Long b ∷ Long a ∷ below) = long_quotient-moves (number_divided op w64 a b) (Long b) (Long a) l below
   divides_longs-moves op l _ = refl
 
-  of_int-moves : (op : OfInt) (n : ℤ) → of_int op n ≡ moved_value h (of_int op n)
-  of_int-moves Ineg n = refl
-  of_int-moves I2l n = refl
-  of_int-moves I2b n = refl
-  of_int-moves I2c n = refl
-  of_int-moves I2s n = refl
-
-  of_long-moves : (op : OfLong) (n : ℤ) → of_long op n ≡ moved_value h (of_long op n)
-  of_long-moves Lneg n = refl
-  of_long-moves L2i n = refl
-
   converts_int-moves : (op : OfInt) (l : Locals) (o : Operands) → converts_int op (moved_locals h l) (moved_operands h o) ≡ moved_outcome h (converts_int op l o)
-  converts_int-moves op l (Int n ∷ below) = ap (λ v. GoesOn (moved_locals h l) (v ∷ moved_operands h below) Next) (of_int-moves op n)
+  converts_int-moves op l (Int n ∷ below) = ap (λ v. GoesOn (moved_locals h l) (v ∷ moved_operands h below) Next) (datum-moves (of_int op n))
   converts_int-moves op l _ = refl
 
   converts_long-moves : (op : OfLong) (l : Locals) (o : Operands) → converts_long op (moved_locals h l) (moved_operands h o) ≡ moved_outcome h (converts_long op l o)
-  converts_long-moves op l (Long n ∷ below) = ap (λ v. GoesOn (moved_locals h l) (v ∷ moved_operands h below) Next) (of_long-moves op n)
+  converts_long-moves op l (Long n ∷ below) = ap (λ v. GoesOn (moved_locals h l) (v ∷ moved_operands h below) Next) (datum-moves (of_long op n))
   converts_long-moves op l _ = refl
 
   increments-moves : (slot : ℕ) (d : ℤ) (found : Option Value) (l : Locals) (o : Operands)

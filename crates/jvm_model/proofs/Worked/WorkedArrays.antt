@@ -20,7 +20,8 @@ use Rattle.base_classes.specs.ThrowableClasses.{throwable_classes}
 use Rattle.base_classes.specs.Natives.{native_methods}
 use Rattle.native_effects.specs.Inputs.KindsViews.{is_among}
 use Rattle.native_ops.specs.Methods.Rows.{rows as native_rows}
-use Rattle.jvm_model.specs.Basis.Data.{Datum, Operands, Frame, Active, Initializing, Constants, Finish, Returned, Unverifiable, State, Quotient, Constant, Store, DivisionOfInts, Local, Operation, Within, Athrow, Monitor, Newarray, Arraylength, LoadElement, StoreElement, Instruction, Catcher, Began, Unwound, Turn, World}
+use Rattle.jvm_model.specs.Basis.Data.{Datum, Operands, Frame, Active, Initializing, Constants, Finish, Returned, Unverifiable, State, Constant, Store, DivisionOfInts, Local, Operation, Within, Athrow, Monitor, Newarray, Arraylength, LoadElement, StoreElement, Instruction, Catcher, Began, Unwound, Turn, World}
+use Rattle.jvm_model.specs.declared.family.Division.TheVariants.{Quotient}
 use Rattle.jvm_model.specs.Running.Applies.{begins_beside, invocation_turn, live_in, new_frame}
 use Rattle.jvm_model.specs.Basis.Families.{family_of, rows}
 use Rattle.jvm_model.specs.Codes.Lines.{operation_by}

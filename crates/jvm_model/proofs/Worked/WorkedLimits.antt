@@ -3,7 +3,8 @@
 use Rattle.std.specs.Prelude.{◌≡◌, List, [], ◌∷◌, Some, None, pos, refl, codes}
 use Rattle.heap_objects.specs.declared.datum.Datum.TheVariants as datum
 use Rattle.heap_objects.specs.declared.Value.TheVariants.{Int, Long, Ref, Addr}
-use Rattle.jvm_model.specs.Basis.Data.{Pop, DupX1, Dup2X2, Local, Operation, Nop, Constant, Within, Athrow, Unverifiable, Loads, Left, Unwound}
+use Rattle.jvm_model.specs.Basis.Data.{Local, Operation, Nop, Constant, Within, Athrow, Unverifiable, Loads, Left, Unwound}
+use Rattle.jvm_model.specs.declared.family.StackInstruction.TheVariants.{Pop, DupX1, Dup2X2}
 use Rattle.jvm_model.specs.Running.Run.{turn_in}
 use Rattle.jvm_model.specs.Profiling.Activations.{trace_in}
 use Rattle.jvm_model.specs.Basis.Values.{managed_stack}

@@ -16,7 +16,9 @@ use Rattle.jvm_model.specs.declared.event.EventKind.{EventKind}
 use Rattle.jvm_model.specs.declared.event.EventKind.TheVariants as kind
 use Rattle.jvm_model.specs.declared.event.Mark.{Mark}
 use Rattle.jvm_model.specs.declared.event.Mark.TheVariants.{Off, Plain, Root}
-use Rattle.jvm_model.specs.Basis.Data.{Iadd, Dup, Local, Operation, Instruction, ManageStack, Within, BinaryOfInts}
+use Rattle.jvm_model.specs.Basis.Data.{Local, Operation, Instruction, ManageStack, Within, BinaryOfInts}
+use Rattle.jvm_model.specs.declared.family.IntOperator.TheVariants.{Iadd}
+use Rattle.jvm_model.specs.declared.family.StackInstruction.TheVariants.{Dup}
 use Rattle.jvm_model.specs.Running.Run.{turn_in}
 use Rattle.jvm_model.specs.Profiling.Activations.{no_trace, trace_in}
 use Rattle.jvm_model.specs.Profiling.EventLists.{Marking, all_told}

@@ -7,7 +7,8 @@ use Rattle.const_pool.specs.declared.descriptor.Kind.TheVariants as kind
 use Rattle.const_pool.specs.declared.class.ClassFile.{ClassFile}
 use Rattle.const_pool.specs.declared.class.Attribute.TheVariants.{Code}
 use Rattle.const_pool.specs.References.{NameAndType, Reference}
-use Rattle.jvm_model.specs.Basis.Data.{Pop, Ending, Uncaught, Entry, Active, Initializing, Constant, Load, ManageStack, Return, Local, Operation, Within, Named, New, Getstatic, Putstatic, Invokestatic, Invokevirtual, Invokespecial, Operands, Instruction, Catcher, Listing, World, Change, State, Turn}
+use Rattle.jvm_model.specs.Basis.Data.{Ending, Uncaught, Entry, Active, Initializing, Constant, Load, ManageStack, Return, Local, Operation, Within, Named, New, Getstatic, Putstatic, Invokestatic, Invokevirtual, Invokespecial, Operands, Instruction, Catcher, Listing, World, Change, State, Turn}
+use Rattle.jvm_model.specs.declared.family.StackInstruction.TheVariants.{Pop}
 use Rattle.jvm_model.specs.Codes.Lines.{next_of}
 use Rattle.jvm_model.specs.Basis.Programs.{methods_numbered, class_named}
 use Rattle.jvm_model.specs.Running.Run.{turn_in}

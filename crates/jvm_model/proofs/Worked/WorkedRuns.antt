@@ -16,7 +16,9 @@ use Rattle.base_classes.specs.ThrowableClasses.{throwable_classes}
 use Rattle.base_classes.specs.Natives.{native_methods}
 use Rattle.native_effects.specs.Inputs.KindsViews.{is_among}
 use Rattle.native_ops.specs.Methods.Rows.{rows}
-use Rattle.jvm_model.specs.Basis.Data.{Entry, Active, Listing, Isub, Store, BinaryOfInts, Iinc, WithZero, Equal, Greater, Branch, Jsr, Ret, Within, Returned}
+use Rattle.jvm_model.specs.Basis.Data.{Entry, Active, Listing, Store, BinaryOfInts, Iinc, WithZero, Branch, Jsr, Ret, Within, Returned}
+use Rattle.jvm_model.specs.declared.family.IntOperator.TheVariants.{Isub}
+use Rattle.jvm_model.specs.declared.family.Comparison.TheVariants.{Equal, Greater}
 use Rattle.jvm_model.specs.declared.event.Act.{Act}
 use Rattle.jvm_model.specs.Running.Run.{turn_in}
 use Rattle.jvm_model.specs.Profiling.Activations.{trace_in}

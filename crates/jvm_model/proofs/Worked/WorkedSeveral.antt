@@ -17,7 +17,10 @@ use Rattle.base_classes.specs.ThrowableClasses.{throwable_classes}
 use Rattle.base_classes.specs.Natives.{native_methods}
 use Rattle.native_effects.specs.Inputs.KindsViews.{is_among}
 use Rattle.native_ops.specs.Methods.Rows.{rows}
-use Rattle.jvm_model.specs.Basis.Data.{Dup, ManageStack, BinaryOfInts, Iadd, WithZero, Equal, Branch, Within, Athrow, Fresh, Ready, Erroneous, Returned, Loads, Began, Unwound}
+use Rattle.jvm_model.specs.Basis.Data.{ManageStack, BinaryOfInts, WithZero, Branch, Within, Athrow, Fresh, Ready, Erroneous, Returned, Loads, Began, Unwound}
+use Rattle.jvm_model.specs.declared.family.IntOperator.TheVariants.{Iadd}
+use Rattle.jvm_model.specs.declared.family.Comparison.TheVariants.{Equal}
+use Rattle.jvm_model.specs.declared.family.StackInstruction.TheVariants.{Dup}
 use Rattle.jvm_model.specs.Classes.Load.{circular_class}
 use Rattle.jvm_model.specs.Classes.Lookup.{incompatible_change}
 use Rattle.jvm_model.specs.Running.Run.{turn_in}

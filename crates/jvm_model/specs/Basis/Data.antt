@@ -8,23 +8,15 @@ pub use Rattle.jvm_model.specs.declared.ending.Ending.TheVariants.{Returned, Exi
 pub use Rattle.jvm_model.specs.declared.program.MethodPlace.{MethodPlace}
 pub use Rattle.jvm_model.specs.declared.program.Program.{Program}
 pub use Rattle.jvm_model.specs.declared.family.IntOperator.{IntOperator}
-pub use Rattle.jvm_model.specs.declared.family.IntOperator.TheVariants.{Iadd, Isub, Imul, Ishl, Ishr, Iushr, Iand, Ior, Ixor}
 pub use Rattle.jvm_model.specs.declared.family.LongOperator.{LongOperator}
-pub use Rattle.jvm_model.specs.declared.family.LongOperator.TheVariants.{Ladd, Lsub, Lmul, Land, Lor, Lxor}
 pub use Rattle.jvm_model.specs.declared.family.Division.{Division}
-pub use Rattle.jvm_model.specs.declared.family.Division.TheVariants.{Quotient, Remainder}
 pub use Rattle.jvm_model.specs.declared.family.LongShift.{LongShift}
-pub use Rattle.jvm_model.specs.declared.family.LongShift.TheVariants.{Lshl, Lshr, Lushr}
 pub use Rattle.jvm_model.specs.declared.family.OfInt.{OfInt}
-pub use Rattle.jvm_model.specs.declared.family.OfInt.TheVariants.{Ineg, I2l, I2b, I2c, I2s}
 pub use Rattle.jvm_model.specs.declared.family.OfLong.{OfLong}
-pub use Rattle.jvm_model.specs.declared.family.OfLong.TheVariants.{Lneg, L2i}
 pub use Rattle.jvm_model.specs.declared.family.Comparison.{Comparison}
-pub use Rattle.jvm_model.specs.declared.family.Comparison.TheVariants.{Equal, NotEqual, Less, AtLeast, Greater, AtMost}
 pub use Rattle.jvm_model.specs.declared.family.Test.{Test}
 pub use Rattle.jvm_model.specs.declared.family.Test.TheVariants.{WithZero, OfInts, OfReferences, IsNull}
 pub use Rattle.jvm_model.specs.declared.family.StackInstruction.{StackInstruction}
-pub use Rattle.jvm_model.specs.declared.family.StackInstruction.TheVariants.{Pop, Pop2, Dup, DupX1, DupX2, Dup2, Dup2X1, Dup2X2, Swap}
 pub use Rattle.jvm_model.specs.declared.instruction.Keys.{Keys}
 pub use Rattle.jvm_model.specs.declared.instruction.Keys.TheVariants.{Consecutive, Listed}
 pub use Rattle.jvm_model.specs.declared.instruction.Local.{Local}

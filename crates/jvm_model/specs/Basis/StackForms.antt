@@ -1,7 +1,8 @@
 -- The nine stack instructions as forms (JVM Specification 6.5): by which of the topmost operands are long, what is put
 -- in their place, by position, the top first.
 use Rattle.std.specs.Prelude.{ℕ, Bool, true, false, List, [], ◌∷◌}
-use Rattle.jvm_model.specs.Basis.Data.{StackForm, StackInstruction, Pop, Pop2, Dup, DupX1, DupX2, Dup2, Dup2X1, Dup2X2, Swap}
+use Rattle.jvm_model.specs.Basis.Data.{StackForm, StackInstruction}
+use Rattle.jvm_model.specs.declared.family.StackInstruction.TheVariants.{Pop, Pop2, Dup, DupX1, DupX2, Dup2, Dup2X1, Dup2X2, Swap}
 
 abbrev pub form : List Bool → List ℕ → StackForm
 form takes puts = record { takes = takes; puts = puts }

@@ -5,9 +5,17 @@ use Rattle.std.specs.Option.{option_map}
 use Rattle.std.specs.Ordering.{int_eq}
 use Rattle.std.specs.Int.{Width, w8, w16, w32, w64, int_wrap, int_bit_and, int_bit_or, int_bit_xor}
 use Rattle.heap_objects.specs.declared.Value.TheVariants.{Int, Long, Addr}
+use Rattle.heap_objects.specs.declared.datum.Datum.TheVariants as datum
 use Rattle.const_pool.specs.declared.descriptor.Kind.{Kind}
 use Rattle.int_ops.specs.Arithmetic.{wrapped_sum, wrapped_difference, wrapped_product, wrapped_negation, wrapped_quotient, shifted_left, shifted_right, shifted_right_unsigned, comparison, zero_extended}
-use Rattle.jvm_model.specs.Basis.Data.{Datum, Value, Locals, Operands, IntOperator, Iadd, Isub, Imul, Ishl, Ishr, Iushr, Iand, Ior, Ixor, LongOperator, Ladd, Lsub, Lmul, Land, Lor, Lxor, Division, Quotient, Remainder, LongShift, Lshl, Lshr, Lushr, OfInt, Ineg, I2l, I2b, I2c, I2s, OfLong, Lneg, L2i, Comparison, Equal, NotEqual, Less, AtLeast, Greater, AtMost, Test, WithZero, OfInts, OfReferences, IsNull, Keys, Consecutive, Listed, Local, Nop, Constant, Load, Store, ManageStack, BinaryOfInts, BinaryOfLongs, DivisionOfInts, DivisionOfLongs, ShiftOfLong, UnaryOfInt, UnaryOfLong, Lcmp, Iinc, Branch, Goto, Switch, Jsr, Ret, Return, Where, Next, Target, Back, Outcome, GoesOn, Subroutine, Returns, Raises, Breaks}
+use Rattle.jvm_model.specs.Basis.Data.{Datum, Value, Locals, Operands, IntOperator, LongOperator, Division, LongShift, OfInt, OfLong, Comparison, Test, WithZero, OfInts, OfReferences, IsNull, Keys, Consecutive, Listed, Local, Nop, Constant, Load, Store, ManageStack, BinaryOfInts, BinaryOfLongs, DivisionOfInts, DivisionOfLongs, ShiftOfLong, UnaryOfInt, UnaryOfLong, Lcmp, Iinc, Branch, Goto, Switch, Jsr, Ret, Return, Where, Next, Target, Back, Outcome, GoesOn, Subroutine, Returns, Raises, Breaks}
+use Rattle.jvm_model.specs.declared.family.IntOperator.TheVariants.{Iadd, Isub, Imul, Ishl, Ishr, Iushr, Iand, Ior, Ixor}
+use Rattle.jvm_model.specs.declared.family.LongOperator.TheVariants.{Ladd, Lsub, Lmul, Land, Lor, Lxor}
+use Rattle.jvm_model.specs.declared.family.Division.TheVariants.{Quotient, Remainder}
+use Rattle.jvm_model.specs.declared.family.LongShift.TheVariants.{Lshl, Lshr, Lushr}
+use Rattle.jvm_model.specs.declared.family.OfInt.TheVariants.{Ineg, I2l, I2b, I2c, I2s}
+use Rattle.jvm_model.specs.declared.family.OfLong.TheVariants.{Lneg, L2i}
+use Rattle.jvm_model.specs.declared.family.Comparison.TheVariants.{Equal, NotEqual, Less, AtLeast, Greater, AtMost}
 use Rattle.jvm_model.specs.Basis.Values.{as_value, datum_of, local_loaded, is_storable, local_in, has_slots, local_stored, int_of, long_of, ref_of, ints_of, longs_of, long_and_int_of, refs_of, managed_stack}
 use Rattle.jvm_model.specs.Basis.StackForms.{forms_of}
 
@@ -73,16 +81,16 @@ divided_by Remainder w a b = int_rem a b
 abbrev pub number_divided : Division → Width → ℤ → ℤ → Option ℤ
 number_divided op w a b = if int_eq b (pos 0) then None else Some (divided_by op w a b)
 
-abbrev pub of_int : OfInt → ℤ → Value
-of_int Ineg n = Int (wrapped_negation w32 n)
-of_int I2l n = Long n
-of_int I2b n = Int (int_wrap w8 n)
-of_int I2c n = Int (zero_extended w16 n)
-of_int I2s n = Int (int_wrap w16 n)
+abbrev pub of_int : OfInt → ℤ → Datum
+of_int Ineg n = datum.Int (wrapped_negation w32 n)
+of_int I2l n = datum.Long n
+of_int I2b n = datum.Int (int_wrap w8 n)
+of_int I2c n = datum.Int (zero_extended w16 n)
+of_int I2s n = datum.Int (int_wrap w16 n)
 
-abbrev pub of_long : OfLong → ℤ → Value
-of_long Lneg n = Long (wrapped_negation w64 n)
-of_long L2i n = Int (int_wrap w32 n)
+abbrev pub of_long : OfLong → ℤ → Datum
+of_long Lneg n = datum.Long (wrapped_negation w64 n)
+of_long L2i n = datum.Int (int_wrap w32 n)
 
 abbrev pub calculates : IntOperator → Locals → Operands → Outcome
 calculates op l o = replaces 2 (option_map (λ p. Int (int_calculated op p.0 p.1)) (ints_of o)) l o
@@ -115,10 +123,10 @@ abbrev pub divides_longs : Division → Locals → Operands → Outcome
 divides_longs op l o = divides_these (option_map (λ p. option_map Long (number_divided op w64 p.0 p.1)) (longs_of o)) l o
 
 abbrev pub converts_int : OfInt → Locals → Operands → Outcome
-converts_int op l o = replaces 1 (option_map (of_int op) (int_of o)) l o
+converts_int op l o = replaces 1 (option_map (λ n. as_value (of_int op n)) (int_of o)) l o
 
 abbrev pub converts_long : OfLong → Locals → Operands → Outcome
-converts_long op l o = replaces 1 (option_map (of_long op) (long_of o)) l o
+converts_long op l o = replaces 1 (option_map (λ n. as_value (of_long op n)) (long_of o)) l o
 
 -- ---- branches
 
