@@ -16,7 +16,7 @@ ghost use Rattle.call_revelation.specs.Reveals.{nothing_revealed, now_of, owned_
 
 use crate::book::Book;
 use crate::named::Named;
-use crate::selection::Selection;
+use crate::selection::SelectedMethods;
 use class_index::Order;
 use jf_bytes::{NoMemory, Seq, Stack};
 use jvm_model::{Mark, MethodPlace, Program};
@@ -35,7 +35,7 @@ pub struct Reveal {
     pub lineage: Lineage,
     pub book: Book,
     pub named: Named,
-    pub selected: Selection,
+    pub selected: SelectedMethods,
     pub entered: Stack<u32>,
     pub flags: Seq<bool>,
     pub targets: Order,
@@ -87,7 +87,7 @@ impl Reveal {
         let lineage = Lineage::new(alloc, classes)?;
         let book = Book::new(alloc, places.len(), classes)?;
         let named = Named::new(alloc, classes)?;
-        let selected = Selection::new(alloc, places.len())?;
+        let selected = SelectedMethods::new(alloc, places.len())?;
         let flags = items_repeated(alloc, false, places.len())?;
         let shown = items_repeated(alloc, Mark::Off, places.len())?;
         Ok(Reveal {

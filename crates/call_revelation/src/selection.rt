@@ -12,12 +12,12 @@ use std::marker::Model;
 
 /// Methods, the one in front that was selected last, and for each method a flag. A clause sees their list.
 #[derive(Drop)]
-pub struct Selection {
+pub struct SelectedMethods {
     methods: Seq<u32>,
     flags: Seq<bool>,
 }
 
-impl Model for Selection {
+impl Model for SelectedMethods {
     ghost use Rattle.std.specs.Prelude.{List, ℕ};
     ghost use Rattle.call_revelation.specs.Flags.{AreFlagged};
 
@@ -59,13 +59,13 @@ fn without_one(alloc: Global, methods: &[u32], method: u32) -> Result<Seq<u32>, 
     Ok(kept)
 }
 
-impl Selection {
+impl SelectedMethods {
     /// No method, with the room for the flags of so many.
-    pub fn new(alloc: Global, methods: usize) -> Result<Selection, NoMemory>
+    pub fn new(alloc: Global, methods: usize) -> Result<SelectedMethods, NoMemory>
         ensures { IfOk result (λ selection. selection ≡ []) }
     {
         let flags = items_repeated(alloc, false, methods)?;
-        Ok(Selection {
+        Ok(SelectedMethods {
             methods: Seq::new(alloc),
             flags,
         })

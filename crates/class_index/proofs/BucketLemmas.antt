@@ -13,7 +13,7 @@ use Rattle.const_pool.specs.declared.pool.Const.{Const}
 use Rattle.const_pool.specs.References.{NameAndType, same_text_at}
 use Rattle.jvm_model.specs.Basis.Methods.{is_member, method_from, method_named}
 use Rattle.jvm_model.specs.Basis.SharedState.{field_named}
-use Rattle.class_index.specs.declared.table.Table.{Table}
+use Rattle.class_index.specs.declared.table.MemberBuckets.{MemberBuckets}
 use Rattle.class_index.specs.Buckets.{bucket_at, buckets_of, filled_from, is_at, member_number, member_sought, number_of, table_of, with_position}
 use Rattle.class_index.proofs.MemberTexts.{text_is}
 
@@ -142,17 +142,17 @@ slice_get-map f (x ∷ xs) (suc i) = slice_get-map f xs i
 pub table_at : (cs : List ClassFile) (i : ℕ) → slice_get (map table_of cs) i ≡ option_map table_of (slice_get cs i)
 table_at cs i = slice_get-map table_of cs i
 
-pub method_found : (c : ClassFile) (t : Table) (w : NameAndType) → t ≡ table_of c → member_sought c.pool c.methods t.methods w ≡ method_named c w
-method_found c t w is = ap (λ (t : Table). member_sought c.pool c.methods t.methods w) is ∙ sought_is c.pool c.methods w
+pub method_found : (c : ClassFile) (t : MemberBuckets) (w : NameAndType) → t ≡ table_of c → member_sought c.pool c.methods t.methods w ≡ method_named c w
+method_found c t w is = ap (λ (t : MemberBuckets). member_sought c.pool c.methods t.methods w) is ∙ sought_is c.pool c.methods w
 
-pub field_found : (c : ClassFile) (t : Table) (w : NameAndType) → t ≡ table_of c → member_sought c.pool c.fields t.fields w ≡ field_named w c
-field_found c t w is = ap (λ (t : Table). member_sought c.pool c.fields t.fields w) is ∙ field_sought_is c.pool c.fields w
+pub field_found : (c : ClassFile) (t : MemberBuckets) (w : NameAndType) → t ≡ table_of c → member_sought c.pool c.fields t.fields w ≡ field_named w c
+field_found c t w is = ap (λ (t : MemberBuckets). member_sought c.pool c.fields t.fields w) is ∙ field_sought_is c.pool c.fields w
 
 some : (n k : ℕ) → n ≡ k + 1 → 0 < n
 some n k e = omega (arith, e)
 
-pub methods_some : (c : ClassFile) (t : Table) → t ≡ table_of c → 0 < length t.methods
-methods_some c t is = some (length t.methods) (length c.methods) (ap (λ (t : Table). length t.methods) is ∙ buckets-length c.pool c.methods)
+pub methods_some : (c : ClassFile) (t : MemberBuckets) → t ≡ table_of c → 0 < length t.methods
+methods_some c t is = some (length t.methods) (length c.methods) (ap (λ (t : MemberBuckets). length t.methods) is ∙ buckets-length c.pool c.methods)
 
-pub fields_some : (c : ClassFile) (t : Table) → t ≡ table_of c → 0 < length t.fields
-fields_some c t is = some (length t.fields) (length c.fields) (ap (λ (t : Table). length t.fields) is ∙ buckets-length c.pool c.fields)
+pub fields_some : (c : ClassFile) (t : MemberBuckets) → t ≡ table_of c → 0 < length t.fields
+fields_some c t is = some (length t.fields) (length c.fields) (ap (λ (t : MemberBuckets). length t.fields) is ∙ buckets-length c.pool c.fields)

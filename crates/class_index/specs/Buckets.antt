@@ -6,7 +6,7 @@ use Rattle.const_pool.specs.declared.class.Member.{Member}
 use Rattle.const_pool.specs.declared.pool.Const.{Const}
 use Rattle.const_pool.specs.References.{NameAndType, named_text}
 use Rattle.jvm_model.specs.Basis.Methods.{is_member}
-use Rattle.class_index.specs.declared.table.Table.{Table}
+use Rattle.class_index.specs.declared.table.MemberBuckets.{MemberBuckets}
 
 -- ---- numbers
 
@@ -40,7 +40,7 @@ filled_from size pool at (m ∷ rest) buckets =
 abbrev pub buckets_of : List Const → List Member → List (List ℕ)
 buckets_of pool members = filled_from (length members + 1) pool 0 members (replicate (length members + 1) [])
 
-abbrev pub table_of : ClassFile → Table
+abbrev pub table_of : ClassFile → MemberBuckets
 table_of c = record { fields = buckets_of c.pool c.fields; methods = buckets_of c.pool c.methods }
 
 -- ---- looking up

@@ -7,7 +7,7 @@ use Rattle.std.specs.List.{AllByRecursion}
 use Rattle.const_pool.specs.ClassFile.{IsClassFile}
 use Rattle.jvm_model.specs.declared.program.Program.{Program}
 use Rattle.jvm_model.specs.Basis.Programs.{class_named}
-use Rattle.class_index.specs.declared.table.Table.{Table}
+use Rattle.class_index.specs.declared.table.MemberBuckets.{MemberBuckets}
 use Rattle.class_index.specs.Buckets.{table_of}
 use Rattle.class_index.specs.Names.{Entries, position_of}
 
@@ -17,7 +17,7 @@ pub record IsLinkable (p : Program) : Type 0 where
   pub count : length p.classes ≤ 4149
 
 -- the table of names gives the positions of classes, and each class has a table of its members
-pub record IsIndexed (p : Program) (entries : Entries) (tables : List Table) : Type 0 where
+pub record IsIndexed (p : Program) (entries : Entries) (tables : List MemberBuckets) : Type 0 where
   pub linkable : IsLinkable p
   pub members : tables ≡ map table_of p.classes
   pub named : (name : List ℕ) → position_of name entries ≡ class_named p name

@@ -12,7 +12,7 @@ ghost use Rattle.class_index.specs.Members.{HasFewMembers};
 ghost use Rattle.class_index.specs.Names.{named_from};
 
 use crate::names::Names;
-use crate::table::{Table, table_of};
+use crate::table::{MemberBuckets, table_of};
 use base_classes::INTERFACE;
 use const_pool::ClassFile;
 use jf_bytes::{NoMemory, Seq};
@@ -25,7 +25,7 @@ use std::marker::Model;
 pub struct Index {
     program: Program,
     names: Names,
-    tables: Seq<Table>,
+    tables: Seq<MemberBuckets>,
 }
 
 impl Model for Index {
@@ -54,7 +54,7 @@ fn names_of(alloc: Global, classes: &[ClassFile]) -> Result<Names, NoMemory>
 }
 
 /// The tables of these classes' members.
-fn tables_of(alloc: Global, classes: &[ClassFile]) -> Result<Seq<Table>, NoMemory>
+fn tables_of(alloc: Global, classes: &[ClassFile]) -> Result<Seq<MemberBuckets>, NoMemory>
     requires { AllByRecursion IsClassFile classes.now }
     ensures { IfOk result (λ tables. tables ≡ map table_of classes.now) }
 {
@@ -98,7 +98,7 @@ impl Index {
 
     /// The table of a class's members.
     #[tactic(auto, using(crate::proofs::BucketLemmas::table_at))]
-    pub fn table(&self, class: u32) -> Option<&Table>
+    pub fn table(&self, class: u32) -> Option<&MemberBuckets>
         ensures { option_copied result ≡ option_map table_of (class_at self.now class) }
     {
         self.tables.get(class as usize)

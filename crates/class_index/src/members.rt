@@ -10,13 +10,13 @@ ghost use Rattle.jvm_model.specs.Basis.SharedState.{field_named};
 ghost use Rattle.class_index.specs.Members.{place_view};
 
 use crate::index::Index;
-use crate::table::{Table, member_sought};
+use crate::table::{MemberBuckets, member_sought};
 use crate::wanted::Wanted;
 use const_pool::ClassFile;
 
 /// The position of the first method with this name and this descriptor.
 #[tactic(auto, using(crate::proofs::BucketLemmas::methods_some))]
-fn method_named(file: &ClassFile, table: &Table, wanted: &Wanted<'_>) -> Option<u16>
+fn method_named(file: &ClassFile, table: &MemberBuckets, wanted: &Wanted<'_>) -> Option<u16>
     requires { table.now ≡ table_of file.now }
     ensures { result ≡ method_named file.now (wanted_view wanted.now) }
 {
@@ -26,7 +26,7 @@ fn method_named(file: &ClassFile, table: &Table, wanted: &Wanted<'_>) -> Option<
 
 /// The position of the first field with this name and this descriptor.
 #[tactic(auto, using(crate::proofs::BucketLemmas::fields_some))]
-fn field_named(file: &ClassFile, table: &Table, wanted: &Wanted<'_>) -> Option<u16>
+fn field_named(file: &ClassFile, table: &MemberBuckets, wanted: &Wanted<'_>) -> Option<u16>
     requires { table.now ≡ table_of file.now }
     ensures { result ≡ field_named (wanted_view wanted.now) file.now }
 {

@@ -15,7 +15,7 @@ use std::alloc::Global;
 
 /// The positions of fields and of methods in buckets, by the remainders of their numbers.
 #[derive(Drop)]
-pub struct Table {
+pub struct MemberBuckets {
     pub fields: Seq<Seq<u16>>,
     pub methods: Seq<Seq<u16>>,
 }
@@ -98,11 +98,11 @@ fn buckets_of(alloc: Global, pool: &Pool, members: &[Member]) -> Result<Seq<Seq<
 }
 
 /// The table of a class.
-pub fn table_of(alloc: Global, file: &ClassFile) -> Result<Table, NoMemory>
+pub fn table_of(alloc: Global, file: &ClassFile) -> Result<MemberBuckets, NoMemory>
     requires { HasFewMembers file.now }
     ensures { IfOk result (λ table. table ≡ table_of file.now) }
 {
-    Ok(Table {
+    Ok(MemberBuckets {
         fields: buckets_of(alloc, &file.pool, file.fields.as_slice())?,
         methods: buckets_of(alloc, &file.pool, file.methods.as_slice())?,
     })

@@ -10,7 +10,7 @@ use Rattle.const_pool.specs.References.{named_class}
 use Rattle.jvm_model.specs.Classes.Load as load
 use Rattle.jvm_model.specs.declared.program.Program.{Program}
 use Rattle.jvm_model.proofs.Loading.Among.{among-append}
-use Rattle.class_linker.specs.declared.loading.State.{State}
+use Rattle.class_linker.specs.declared.loading.LinkerState.{LinkerState}
 use Rattle.class_linker.specs.LoadedClasses.{AreKept, AreLoadedClasses, LoadedClassRows, holds_class}
 use Rattle.class_linker.specs.States.{IsLater, IsState, needs_at, needs_in}
 
@@ -30,7 +30,7 @@ needs_are c = ap (λ l. needs_at c false c.super_class ++ l) (each_need (named_c
 
 -- ---- a state after a row was made
 
-module _ (p : Program) (s : State) (rows : LoadedClassRows) (is : IsState p s) (are : AreLoadedClasses p rows) (kept : AreKept s.rows rows) where
+module _ (p : Program) (s : LinkerState) (rows : LoadedClassRows) (is : IsState p s) (are : AreLoadedClasses p rows) (kept : AreKept s.rows rows) where
   pub state_same : (loaded : List ℕ) → loaded ≡ s.loaded → IsState p (record { rows = rows; loaded = loaded })
   state_same loaded same = record {
     rows = are;
@@ -51,10 +51,10 @@ module _ (p : Program) (s : State) (rows : LoadedClassRows) (is : IsState p s) (
       by c false false was is_last among =
           absurd (false≢true (sym (ap₂ (λ a b. a || (b || false)) was is_last) ∙ among))
 
-pub later_same : (s : State) (rows : LoadedClassRows) (loaded : List ℕ) → AreKept s.rows rows → loaded ≡ s.loaded → IsLater s (record { rows = rows; loaded = loaded })
+pub later_same : (s : LinkerState) (rows : LoadedClassRows) (loaded : List ℕ) → AreKept s.rows rows → loaded ≡ s.loaded → IsLater s (record { rows = rows; loaded = loaded })
 later_same s rows loaded kept same = record { rows = kept; loaded = ap (take (length s.loaded)) same ∙ take-length s.loaded }
 
-pub later_more : (s : State) (rows : LoadedClassRows) (loaded more : List ℕ) → AreKept s.rows rows → loaded ≡ s.loaded ++ more
+pub later_more : (s : LinkerState) (rows : LoadedClassRows) (loaded more : List ℕ) → AreKept s.rows rows → loaded ≡ s.loaded ++ more
     → IsLater s (record { rows = rows; loaded = loaded })
 later_more s rows loaded more kept same =
     record { rows = kept; loaded = ap (take (length s.loaded)) same ∙ take-append_seam s.loaded more }

@@ -14,7 +14,7 @@ use Rattle.class_linker.specs.declared.loading.Standing.TheVariants.{Ended, Fres
 use Rattle.class_linker.specs.declared.loading.Need.{Need}
 use Rattle.class_linker.specs.declared.loading.Begun.{Begun}
 use Rattle.class_linker.specs.declared.loading.Begun.TheVariants as begun
-use Rattle.class_linker.specs.declared.loading.State.{State}
+use Rattle.class_linker.specs.declared.loading.LinkerState.{LinkerState}
 use Rattle.class_linker.specs.LoadedClasses.{AreKept, AreLoadedClasses, LoadedClassRows, holds_class}
 
 -- ---- what the code has, as the definitions have it
@@ -43,12 +43,12 @@ abbrev pub HaveLoadedClasses : LoadedClassRows → List ℕ → Type 0
 HaveLoadedClasses rows loaded = (class : ℕ) → load.is_among class loaded ≡ true → holds_class rows class ≡ true
 
 -- each loaded class has a row
-pub record IsState (p : Program) (s : State) : Type 0 where
+pub record IsState (p : Program) (s : LinkerState) : Type 0 where
   pub rows : AreLoadedClasses p s.rows
   pub loaded : HaveLoadedClasses s.rows s.loaded
 
 -- rows are kept, and what is loaded more stands behind
-pub record IsLater (before after : State) : Type 0 where
+pub record IsLater (before after : LinkerState) : Type 0 where
   pub rows : AreKept before.rows after.rows
   pub loaded : take (length before.loaded) after.loaded ≡ before.loaded
 

@@ -20,7 +20,7 @@ ghost use Rattle.jvm_model.specs.Classes.SuperCalls.{invoked_special};
 use crate::answers::{Loaded, Resolved};
 use crate::declared_method::DeclaredMethod;
 use crate::loaded_classes::{LoadedClass, LoadedClasses};
-use crate::loading::State;
+use crate::loading::LinkerState;
 use crate::overriding::{is_abstract, is_static};
 use crate::telling::answer;
 use class_index::{Index, Order, Wanted};
@@ -37,7 +37,7 @@ use std::rc::Rc;
 pub struct Linker {
     alloc: Global,
     index: Rc<Index>,
-    state: State,
+    state: LinkerState,
 }
 
 impl Model for Linker {
@@ -80,7 +80,7 @@ impl Linker {
         Ok(Linker {
             alloc,
             index,
-            state: State {
+            state: LinkerState {
                 rows,
                 loaded: Order::new(alloc),
             },

@@ -57,7 +57,7 @@ pub enum Begun<'a> {
 /// The rows of the classes, and which are loaded, in order. A row may stay when its class could not be loaded after
 /// all.
 #[derive(Drop)]
-pub struct State {
+pub struct LinkerState {
     pub rows: Seq<Option<LoadedClass>>,
     pub loaded: Order,
 }
@@ -170,7 +170,7 @@ fn prepare(
 }
 
 /// Notes a class as loaded.
-fn finish(alloc: Global, index: &Index, state: &mut State, class: u32) -> Result<(), NoMemory>
+fn finish(alloc: Global, index: &Index, state: &mut LinkerState, class: u32) -> Result<(), NoMemory>
     requires state { IsState index.now state.old }
     requires within { class < length state.old.rows }
     requires fresh { is_among class state.old.loaded ≡ false }
@@ -283,7 +283,7 @@ fn begin<'a>(
 fn close(
     alloc: Global,
     index: &Index,
-    state: &mut State,
+    state: &mut LinkerState,
     path: &mut Order,
     before: usize,
     class: u32,
@@ -306,7 +306,7 @@ fn close(
 fn load_named(
     alloc: Global,
     index: &Index,
-    state: &mut State,
+    state: &mut LinkerState,
     path: &mut Order,
     depth: u32,
     name: &[u16],
@@ -343,7 +343,7 @@ fn load_named(
 pub fn load_all(
     alloc: Global,
     index: &Index,
-    state: &mut State,
+    state: &mut LinkerState,
     name: &[u16],
 ) -> Result<Option<Fault>, NoMemory>
     requires { IsState index.now state.old }

@@ -9,7 +9,7 @@ ghost use Rattle.class_linker.specs.States.{IsLater, IsState, fault_view};
 
 use crate::answers::Loaded;
 use crate::kinds::kind_named;
-use crate::loading::{Fault, State, load_all};
+use crate::loading::{Fault, LinkerState, load_all};
 use base_classes::{
     CLASS_CIRCULARITY_ERROR, INCOMPATIBLE_CLASS_CHANGE_ERROR, NO_CLASS_DEF_FOUND_ERROR,
 };
@@ -64,7 +64,7 @@ fn behind(classes: &[u32], before: usize) -> &[u32]
 pub fn answer(
     alloc: Global,
     index: &Index,
-    state: &mut State,
+    state: &mut LinkerState,
     name: &[u16],
 ) -> Result<Loaded, NoMemory>
     requires { IsState index.now state.old }

@@ -2,8 +2,8 @@
 use Rattle.std.specs.Prelude.{ℕ, ℤ, pos, Bool, List, map, slice_set, if◌then◌else◌}
 use Rattle.heap_objects.specs.declared.datum.Datum.{Datum}
 use Rattle.heap_objects.specs.declared.datum.Datum.TheVariants.{Int, Long, Ref}
-use Rattle.heap_objects.specs.declared.element.Element.{Element}
-use Rattle.heap_objects.specs.declared.element.Element.TheVariants.{Boolean, Char, Byte, Short, Int as IntElement, Long as LongElement, Reference, Any}
+use Rattle.heap_objects.specs.declared.element.ElementType.{ElementType}
+use Rattle.heap_objects.specs.declared.element.ElementType.TheVariants.{Boolean, Char, Byte, Short, Int as IntElement, Long as LongElement, Reference, Any}
 use Rattle.heap_objects.specs.Kept.{element_kept}
 use Rattle.heap_objects.specs.declared.cells.Cells.{Cells}
 use Rattle.heap_objects.specs.declared.cells.Cells.TheVariants.{Booleans, Chars, Bytes, Shorts, Ints, Longs, References, Data}
@@ -34,7 +34,7 @@ data_in (References v) = map reference_datum v.items
 data_in (Data v) = v.items
 
 -- what the cells are made for
-abbrev pub element_in : Cells → Element
+abbrev pub element_in : Cells → ElementType
 element_in (Booleans v) = Boolean
 element_in (Chars v) = Char
 element_in (Bytes v) = Byte

@@ -5,8 +5,8 @@ use Rattle.std.specs.Int.{w8, w16, w32, cast_unsigned, int_wrap}
 use Rattle.int_ops.specs.Arithmetic.{zero_extended}
 use Rattle.heap_objects.specs.declared.datum.Datum.{Datum}
 use Rattle.heap_objects.specs.declared.datum.Datum.TheVariants.{Int, Long, Ref}
-use Rattle.heap_objects.specs.declared.element.Element.{Element}
-use Rattle.heap_objects.specs.declared.element.Element.TheVariants.{Boolean, Char, Byte, Short, Int as IntElement, Long as LongElement, Reference, Any}
+use Rattle.heap_objects.specs.declared.element.ElementType.{ElementType}
+use Rattle.heap_objects.specs.declared.element.ElementType.TheVariants.{Boolean, Char, Byte, Short, Int as IntElement, Long as LongElement, Reference, Any}
 
 -- the int of a value, or 0 where it is of another sort; likewise the long and the reference
 abbrev pub int_of : Datum → ℤ
@@ -25,7 +25,7 @@ reference_of (Long n) = 0
 reference_of (Ref r) = r
 
 -- what an element of this sort keeps of a value
-abbrev pub element_kept : Element → Datum → Datum
+abbrev pub element_kept : ElementType → Datum → Datum
 element_kept Boolean v = Int (pos (cast_unsigned w32 (int_of v) % 2))
 element_kept Char v = Int (zero_extended w16 (int_of v))
 element_kept Byte v = Int (int_wrap w8 (int_of v))

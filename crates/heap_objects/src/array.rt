@@ -7,7 +7,7 @@ ghost use Rattle.heap_objects.specs.ArrayView.{with_element};
 
 use crate::cells::Cells;
 use crate::datum::Datum;
-use crate::element::{Element, element_of};
+use crate::element::{ElementType, element_of};
 use std::alloc::{AllocError, Global};
 use std::marker::Model;
 
@@ -73,7 +73,7 @@ impl ArrayObject {
     /// The int of an element of an array of ints.
     #[inline(always)]
     pub fn int(&self, slot: usize) -> Option<i32>
-        ensures ints { IfSome result (λ _. element_of self.now.kind ≡ Element.Int) }
+        ensures ints { IfSome result (λ _. element_of self.now.kind ≡ ElementType.Int) }
         ensures found { IfSome result (λ n. slice_get self.now.items slot ≡ Some (Datum.Int n)) }
     {
         self.cells.int(slot)
@@ -82,7 +82,7 @@ impl ArrayObject {
     /// The reference of an element of an array of references.
     #[inline(always)]
     pub fn reference(&self, slot: usize) -> Option<u32>
-        ensures references { IfSome result (λ _. element_of self.now.kind ≡ Element.Reference) }
+        ensures references { IfSome result (λ _. element_of self.now.kind ≡ ElementType.Reference) }
         ensures found { IfSome result (λ n. slice_get self.now.items slot ≡ Some (Datum.Ref n)) }
     {
         self.cells.reference(slot)

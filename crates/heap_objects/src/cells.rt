@@ -5,7 +5,7 @@ ghost use Rattle.heap_objects.specs.Kept.{element_kept};
 ghost use Rattle.heap_objects.specs.Cells.{bit_datum, data_in, data_with, element_in};
 
 use crate::datum::Datum;
-use crate::element::Element;
+use crate::element::ElementType;
 use crate::kept::{int_of, long_of, low_byte, low_char, low_short, lowest_bit, reference_of};
 use std::alloc::{AllocError, Global};
 
@@ -42,7 +42,7 @@ fn item<T: Copy>(items: &[T], place: usize) -> Option<T>
 /// A boolean as the int that stands for it: 1 for true, 0 for false (JVM Specification 2.3.4).
 fn bit_datum(bit: bool) -> Datum
     ensures value { result ≡ bit_datum bit }
-    ensures whole { element_kept Element.Boolean result ≡ result }
+    ensures whole { element_kept ElementType.Boolean result ≡ result }
 {
     Datum::Int(if bit { 1 } else { 0 })
 }
@@ -51,7 +51,7 @@ impl Cells {
     /// So many elements, each with what it keeps of a value.
     pub fn make(
         alloc: Global,
-        element: Element,
+        element: ElementType,
         zero: Datum,
         len: usize,
     ) -> Result<Cells, AllocError>
@@ -59,22 +59,34 @@ impl Cells {
         ensures element { IfOk result (λ c. element_in c ≡ element) }
     {
         match element {
-            Element::Boolean => Ok(Cells::Booleans(cells_filled(
+            ElementType::Boolean => Ok(Cells::Booleans(cells_filled(
                 alloc,
                 lowest_bit(int_of(zero)),
                 len,
             )?)),
-            Element::Char => Ok(Cells::Chars(cells_filled(alloc, low_char(int_of(zero)), len)?)),
-            Element::Byte => Ok(Cells::Bytes(cells_filled(alloc, low_byte(int_of(zero)), len)?)),
-            Element::Short => Ok(Cells::Shorts(cells_filled(alloc, low_short(int_of(zero)), len)?)),
-            Element::Int => Ok(Cells::Ints(cells_filled(alloc, int_of(zero), len)?)),
-            Element::Long => Ok(Cells::Longs(cells_filled(alloc, long_of(zero), len)?)),
-            Element::Reference => Ok(Cells::References(cells_filled(
+            ElementType::Char => Ok(Cells::Chars(cells_filled(
+                alloc,
+                low_char(int_of(zero)),
+                len,
+            )?)),
+            ElementType::Byte => Ok(Cells::Bytes(cells_filled(
+                alloc,
+                low_byte(int_of(zero)),
+                len,
+            )?)),
+            ElementType::Short => Ok(Cells::Shorts(cells_filled(
+                alloc,
+                low_short(int_of(zero)),
+                len,
+            )?)),
+            ElementType::Int => Ok(Cells::Ints(cells_filled(alloc, int_of(zero), len)?)),
+            ElementType::Long => Ok(Cells::Longs(cells_filled(alloc, long_of(zero), len)?)),
+            ElementType::Reference => Ok(Cells::References(cells_filled(
                 alloc,
                 reference_of(zero),
                 len,
             )?)),
-            Element::Any => Ok(Cells::Data(cells_filled(alloc, zero, len)?)),
+            ElementType::Any => Ok(Cells::Data(cells_filled(alloc, zero, len)?)),
         }
     }
 
@@ -135,7 +147,7 @@ impl Cells {
     /// The int of an element, where the elements are ints.
     #[inline(always)]
     pub fn int(&self, slot: usize) -> Option<i32>
-        ensures ints { IfSome result (λ _. element_in self.now ≡ Element.Int) }
+        ensures ints { IfSome result (λ _. element_in self.now ≡ ElementType.Int) }
         ensures found { IfSome result
             (λ n. slice_get (data_in self.now) slot ≡ Some (Datum.Int n)) }
     {
@@ -148,7 +160,7 @@ impl Cells {
     /// The reference of an element, where the elements are references.
     #[inline(always)]
     pub fn reference(&self, slot: usize) -> Option<u32>
-        ensures references { IfSome result (λ _. element_in self.now ≡ Element.Reference) }
+        ensures references { IfSome result (λ _. element_in self.now ≡ ElementType.Reference) }
         ensures found { IfSome result
             (λ n. slice_get (data_in self.now) slot ≡ Some (Datum.Ref n)) }
     {

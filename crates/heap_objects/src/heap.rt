@@ -7,7 +7,7 @@ ghost use Rattle.heap_objects.specs.Kinds.{element_of};
 
 use crate::array::ArrayObject;
 use crate::datum::Datum;
-use crate::element::Element;
+use crate::element::ElementType;
 use crate::error::HeapError;
 use crate::interned::Interned;
 use crate::lists::{append_at, item_at, put_at, put_last, put_unit_at, replace_at};
@@ -135,7 +135,7 @@ impl Heap {
     #[inline(always)]
     pub fn int_at(&self, object: u32, slot: u32) -> Option<i32>
         ensures ints { IfSome result
-            (λ _. option_map element_of (kind_at object self.now) ≡ Some Element.Int) }
+            (λ _. option_map element_of (kind_at object self.now) ≡ Some ElementType.Int) }
         ensures found { IfSome result (λ n. slot_at object slot self.now ≡ Some (Datum.Int n)) }
     {
         self.find(object)?.int(slot as usize)
@@ -145,7 +145,7 @@ impl Heap {
     #[inline(always)]
     pub fn reference_at(&self, object: u32, slot: u32) -> Option<u32>
         ensures references { IfSome result
-            (λ _. option_map element_of (kind_at object self.now) ≡ Some Element.Reference) }
+            (λ _. option_map element_of (kind_at object self.now) ≡ Some ElementType.Reference) }
         ensures found { IfSome result (λ n. slot_at object slot self.now ≡ Some (Datum.Ref n)) }
     {
         self.find(object)?.reference(slot as usize)

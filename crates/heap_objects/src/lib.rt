@@ -13,7 +13,7 @@ mod lists;
 mod object;
 
 pub use datum::Datum;
-pub use element::{Element, element_of};
+pub use element::{ElementType, element_of};
 pub use error::HeapError;
 pub use heap::Heap;
 pub use kept::int_of;

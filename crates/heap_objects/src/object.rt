@@ -7,7 +7,7 @@ ghost use Rattle.heap_objects.specs.Kinds.{element_of};
 
 use crate::array::ArrayObject;
 use crate::datum::Datum;
-use crate::element::Element;
+use crate::element::ElementType;
 use jf_bytes::Seq;
 use std::alloc::AllocError;
 
@@ -61,7 +61,7 @@ impl Object {
     /// The int of an element of an array of ints.
     #[inline(always)]
     pub fn int(&self, slot: usize) -> Option<i32>
-        ensures ints { IfSome result (λ _. element_of (kind_of self.now) ≡ Element.Int) }
+        ensures ints { IfSome result (λ _. element_of (kind_of self.now) ≡ ElementType.Int) }
         ensures found { IfSome result
             (λ n. slice_get (slots_of self.now) slot ≡ Some (Datum.Int n)) }
     {
@@ -76,7 +76,7 @@ impl Object {
     #[inline(always)]
     pub fn reference(&self, slot: usize) -> Option<u32>
         ensures references { IfSome result
-            (λ _. element_of (kind_of self.now) ≡ Element.Reference) }
+            (λ _. element_of (kind_of self.now) ≡ ElementType.Reference) }
         ensures found { IfSome result
             (λ n. slice_get (slots_of self.now) slot ≡ Some (Datum.Ref n)) }
     {

@@ -25,7 +25,7 @@ ghost use Rattle.instructions.specs.Elements.{is_number, place_by, storing_by};
 
 use const_pool::Kind;
 use frame_stack::Frames;
-use heap_objects::{Datum, Element, Heap, Value, element_of};
+use heap_objects::{Datum, ElementType, Heap, Value, element_of};
 use jf_bytes::{NoMemory, Text16};
 use jvm_basic::{Effect, drop_narrow, drop_three, exchange_two, recall, replace_two, value_of};
 use jvm_model::Exception;
@@ -62,16 +62,16 @@ pub struct Storing {
 
 /// Whether instructions of a kind serve arrays of these elements.
 #[inline(always)]
-fn serves(kind: Kind, element: Element) -> bool
+fn serves(kind: Kind, element: ElementType) -> bool
     ensures { result ≡ serves kind element }
 {
     match (kind, element) {
-        (Kind::Int, Element::Int)
-        | (Kind::Long, Element::Long)
-        | (Kind::Ref, Element::Reference)
-        | (Kind::Byte, Element::Byte | Element::Boolean)
-        | (Kind::Char, Element::Char)
-        | (Kind::Short, Element::Short) => true,
+        (Kind::Int, ElementType::Int)
+        | (Kind::Long, ElementType::Long)
+        | (Kind::Ref, ElementType::Reference)
+        | (Kind::Byte, ElementType::Byte | ElementType::Boolean)
+        | (Kind::Char, ElementType::Char)
+        | (Kind::Short, ElementType::Short) => true,
         _ => false,
     }
 }

@@ -181,7 +181,7 @@ fn fetch_all<F: Files>(
 
 /// The contents of class files, in their order, their program, and the most steps that it makes.
 #[derive(Drop)]
-struct Found {
+struct LoadedProgram {
     contents: Seq<Seq<u8>>,
     program: Program,
     budget: u64,
@@ -190,7 +190,7 @@ struct Found {
 /// What words and their plan ask for: the plan, the contents of the class files, in the order of
 /// their words or of the generated classes, their program, and the most steps that it makes.
 #[derive(Drop)]
-pub struct Loaded {
+pub struct LoadedCommand {
     pub plan: Plan,
     pub contents: Seq<Seq<u8>>,
     pub program: Program,
@@ -203,7 +203,7 @@ fn load_files<F: Files>(
     words: &Words<'_>,
     plan: &Plan,
     files: &mut F,
-) -> Result<Found, Refusal>
+) -> Result<LoadedProgram, Refusal>
     requires sound { IsSound (read_in words.now) }
     requires own { words.now.generated ≡ None }
     requires within { IsWithin plan.now }
@@ -233,7 +233,7 @@ fn load_files<F: Files>(
         Err(refusal) => return Err(refusal),
     };
     match read_program(alloc, contents.as_slice(), command.main, plan) {
-        Ok(program) => Ok(Found {
+        Ok(program) => Ok(LoadedProgram {
             contents,
             program,
             budget: command.budget,
@@ -248,7 +248,7 @@ fn load_generated(
     words: &Words<'_>,
     generation: Generation,
     plan: &Plan,
-) -> Result<Found, Refusal>
+) -> Result<LoadedProgram, Refusal>
     requires sound { IsSound (read_in words.now) }
     requires own { words.now.generated ≡ Some generation }
     requires within { IsWithin plan.now }
@@ -266,7 +266,7 @@ fn load_generated(
         unreachable!()
     };
     match admit_generated(alloc, generation.seed, generation.size, plan) {
-        Ok(made) => Ok(Found {
+        Ok(made) => Ok(LoadedProgram {
             contents: made.contents,
             program: made.program,
             budget: command.budget,
@@ -281,7 +281,7 @@ fn load<F: Files>(
     words: &Words<'_>,
     plan: &Plan,
     files: &mut F,
-) -> Result<Found, Refusal>
+) -> Result<LoadedProgram, Refusal>
     requires sound { IsSound (read_in words.now) }
     requires within { IsWithin plan.now }
     requires alternate { AlternateRoots [] plan.now.actions }
@@ -309,7 +309,11 @@ fn load<F: Files>(
 }
 
 /// Reads the plan of the words, and loads the classes that they ask for with it.
-pub fn prepare<F: Files>(alloc: Global, words: &Words<'_>, files: &mut F) -> Result<Loaded, Refusal>
+pub fn prepare<F: Files>(
+    alloc: Global,
+    words: &Words<'_>,
+    files: &mut F,
+) -> Result<LoadedCommand, Refusal>
     requires sound { IsSound (read_in words.now) }
     ensures ok { (g : CallInputs) → words_accepted g.words ≡ Some (read_in words.now) →
         g.told ≡ F.contents files.old → IfOk result (λ l.
@@ -334,12 +338,12 @@ pub fn prepare<F: Files>(alloc: Global, words: &Words<'_>, files: &mut F) -> Res
     };
     match load(alloc, words, &plan, files) {
         Ok(found) => {
-            let Found {
+            let LoadedProgram {
                 contents,
                 program,
                 budget,
             } = found;
-            Ok(Loaded {
+            Ok(LoadedCommand {
                 plan,
                 contents,
                 program,

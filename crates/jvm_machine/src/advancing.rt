@@ -30,7 +30,7 @@ pub enum Telling {
 /// How many steps that tell nothing were made, and what is due where the one behind them has
 /// stopped, if it has.
 #[derive(Clone, Copy, Debug, PartialEq, Eq)]
-pub struct Passage {
+pub struct Advance {
     pub made: u64,
     pub due: Option<Due>,
 }

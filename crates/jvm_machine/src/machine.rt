@@ -19,7 +19,7 @@ ghost use Rattle.jvm_machine.specs.Several.{RunsOn, TurnsBehind, is_settled};
 ghost use Rattle.jvm_machine.specs.View.{IsGoingOn, has_ended, is_resting, machine_made, run_state};
 
 use crate::advancing::{
-    Onward, Passage, Telling, clock_in, hand_left, hand_now, loaded_since, take_up,
+    Advance, Onward, Telling, clock_in, hand_left, hand_now, loaded_since, take_up,
 };
 use crate::telling::event_told;
 use crate::turn::Turn;
@@ -285,26 +285,26 @@ impl Vm {
     /// Makes steps from which nothing follows, at most so many. Where the next one is within them,
     /// and a probe tells of it, it goes on to there.
     #[inline(always)]
-    fn pass_onward(&mut self, most: u64) -> Passage
+    fn pass_onward(&mut self, most: u64) -> Advance
         requires resting { is_resting self.old ≡ true }
         requires below { self.old.clock + most < 2 ^ 63 }
         ensures passes { PassesUpTo self.old result.made result.due self.new }
         ensures within { result.made ≤ most }
     {
         if self.broken || !self.started || !is_at_instruction(&self.parts, &self.initializing) {
-            return Passage { made: 0, due: None };
+            return Advance { made: 0, due: None };
         }
         let passed = pass_steps(&self.originals, &mut self.parts, &self.initializing, most);
         self.clock += passed.made;
         let Some(gone) = passed.gone else {
-            return Passage {
+            return Advance {
                 made: passed.made,
                 due: None,
             };
         };
         self.clock += 1;
         self.hand = hand_left(gone);
-        Passage {
+        Advance {
             made: passed.made,
             due: Some(gone.due),
         }
@@ -358,7 +358,7 @@ impl Vm {
     /// many with the step in hand and a last one. None, with nothing changed, where it is not, or
     /// they are too few.
     #[inline(always)]
-    fn pass_behind(&mut self, most: u64) -> Option<Passage>
+    fn pass_behind(&mut self, most: u64) -> Option<Advance>
         requires in_hand { is_resting self.old ≡ false }
         requires below { self.old.clock + most < 2 ^ 63 }
         ensures passes { IfSome result (λ p. EndsUpTo self.old p.made p.due self.new) }
@@ -385,14 +385,14 @@ impl Vm {
         self.clock += behind.made;
         let Some(next) = behind.gone else {
             self.hand = hand_left(gone);
-            return Some(Passage {
+            return Some(Advance {
                 made: behind.made,
                 due: None,
             });
         };
         self.clock += 1;
         self.hand = hand_left(next);
-        Some(Passage {
+        Some(Advance {
             made: behind.made,
             due: Some(next.due),
         })

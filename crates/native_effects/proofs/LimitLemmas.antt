@@ -6,8 +6,8 @@ use Rattle.heap_objects.specs.declared.datum.Datum.TheVariants.{Int}
 use Rattle.heap_objects.specs.Changes.{changed_if}
 use Rattle.heap_objects.specs.Interning.{number_of, with_number}
 use Rattle.heap_objects.specs.Heaps.{HeapView, has_slot_at, with_slot_at, has_unit_at, with_unit_at, units_at, growth_of, with_units_added, with_units_replaced, with_interned, with_text, with_instance, with_array, next_number}
-use Rattle.native_effects.specs.declared.effects.effect.Effect.{Effect}
-use Rattle.native_effects.specs.declared.effects.effect.Effect.TheVariants.{Answers, MakesText, MakesArray, MakesInstance, Appends, Replaces, PutsUnit, Resizes, Interns, Prints, Reads, Stores, SetsFields, GivesClass, GivesBox}
+use Rattle.native_effects.specs.declared.effects.effect.NativeEffect.{NativeEffect}
+use Rattle.native_effects.specs.declared.effects.effect.NativeEffect.TheVariants.{Answers, MakesText, MakesArray, MakesInstance, Appends, Replaces, PutsUnit, Resizes, Interns, Prints, Reads, Stores, SetsFields, GivesClass, GivesBox}
 use Rattle.native_effects.specs.Inputs.Numbers.{string_kind, class_kind}
 use Rattle.native_effects.specs.Inputs.Objects.{size_at, text_at}
 use Rattle.native_effects.specs.Inputs.MadeViews.{object_of_class, object_of_box}
@@ -48,7 +48,7 @@ intern-limit units h =
     either (is_some (number_of units h.interned)) h.limit h (if is_full (1 + length units) h then h else with_interned string_kind units h) refl
     (either (is_full (1 + length units) h) h.limit h (with_interned string_kind units h) refl (interned-limit units h))
 
-pub after-limit : (e : Effect) (w : World) → (after e w).heap.limit ≡ w.heap.limit
+pub after-limit : (e : NativeEffect) (w : World) → (after e w).heap.limit ≡ w.heap.limit
 after-limit (Answers answer) w = refl
 after-limit (MakesText units) w = either (is_full (1 + length units) w.heap) w.heap.limit w.heap (with_text string_kind units w.heap) refl refl
 after-limit (MakesArray kind values) w =

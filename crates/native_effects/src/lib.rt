@@ -8,7 +8,7 @@ mod inputs;
 pub use effects::answer::{Answer, Native};
 pub use effects::carrying::carry_out;
 pub use effects::effect::{
-    Effect, gives_boolean, gives_int, gives_long, gives_nothing, gives_reference, throws,
+    NativeEffect, gives_boolean, gives_int, gives_long, gives_nothing, gives_reference, throws,
 };
 pub use effects::made::Made;
 pub use inputs::arguments::{boolean_in, char_in, char_of, int_in, long_in, reference_in};

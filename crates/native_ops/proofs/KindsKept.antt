@@ -11,8 +11,8 @@ use Rattle.heap_objects.specs.declared.object.Object.TheVariants.{Instance, Arra
 use Rattle.heap_objects.specs.Objects.{kind_of, changed_at, with_slot, with_unit, with_units, with_more_units}
 use Rattle.heap_objects.specs.Interning.{number_of, with_number}
 use Rattle.heap_objects.specs.Heaps.{HeapView, kind_at, new_array, has_slot_at, with_slot_at, has_unit_at, with_unit_at, units_at, growth_of, with_units_added, with_units_replaced, with_interned, with_text, with_instance, with_array, next_number}
-use Rattle.native_effects.specs.declared.effects.effect.Effect.{Effect}
-use Rattle.native_effects.specs.declared.effects.effect.Effect.TheVariants.{Answers, MakesText, MakesArray, MakesInstance, Appends, Replaces, PutsUnit, Resizes, Interns, Prints, Reads, Stores, SetsFields, GivesClass, GivesBox}
+use Rattle.native_effects.specs.declared.effects.effect.NativeEffect.{NativeEffect}
+use Rattle.native_effects.specs.declared.effects.effect.NativeEffect.TheVariants.{Answers, MakesText, MakesArray, MakesInstance, Appends, Replaces, PutsUnit, Resizes, Interns, Prints, Reads, Stores, SetsFields, GivesClass, GivesBox}
 use Rattle.native_effects.specs.Inputs.Numbers.{string_kind, class_kind}
 use Rattle.native_effects.specs.Inputs.Objects.{size_at, text_at}
 use Rattle.native_effects.specs.Inputs.KindsViews.{KindsView}
@@ -94,7 +94,7 @@ module _ (P : ℕ → Type 0) (K : List Object → Type 0) (stays : StaysBy P K)
       either found h (if is_full asked h then h else with_instance kind fields h) is
       (either (is_full asked h) h (with_instance kind fields h) is (stays.added h.objects (Instance kind fields) made is))
 
-  pub after-keeps : (e : Effect) (w : World) → IsMadeOf P e → AreMade P → K w.heap.objects → K (after e w).heap.objects
+  pub after-keeps : (e : NativeEffect) (w : World) → IsMadeOf P e → AreMade P → K w.heap.objects → K (after e w).heap.objects
   after-keeps (Answers answer) w made are is = is
   after-keeps (MakesText units) w made are is =
       either (is_full (1 + length units) w.heap) w.heap (with_text string_kind units w.heap) is (text-keeps units w.heap are.text is)

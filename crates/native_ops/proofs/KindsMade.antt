@@ -13,8 +13,8 @@ use Rattle.heap_objects.specs.Objects.{kind_of}
 use Rattle.heap_objects.specs.Kept.{reference_of}
 use Rattle.heap_objects.specs.Heaps.{HeapView, kind_at}
 use Rattle.native_effects.specs.declared.effects.answer.Answer.TheVariants as answer
-use Rattle.native_effects.specs.declared.effects.effect.Effect.{Effect}
-use Rattle.native_effects.specs.declared.effects.effect.Effect.TheVariants.{Answers, MakesText, MakesArray, MakesInstance, Appends, Replaces, PutsUnit, Resizes, Interns, Prints, Reads, Stores, SetsFields, GivesClass, GivesBox}
+use Rattle.native_effects.specs.declared.effects.effect.NativeEffect.{NativeEffect}
+use Rattle.native_effects.specs.declared.effects.effect.NativeEffect.TheVariants.{Answers, MakesText, MakesArray, MakesInstance, Appends, Replaces, PutsUnit, Resizes, Interns, Prints, Reads, Stores, SetsFields, GivesClass, GivesBox}
 use Rattle.native_ops.specs.declared.methods.method.Method.{Method}
 use Rattle.native_ops.specs.declared.methods.method.Method.TheVariants as method
 use Rattle.native_ops.specs.declared.methods.method.ObjectMethod.{ObjectMethod}
@@ -89,7 +89,7 @@ abbrev pub HaveKinds : (ℕ → Type 0) → List Object → Type 0
 HaveKinds P objects = AllByRecursion (λ o. P (kind_of o)) objects
 
 -- the kind of what an effect makes is such a kind, where the effect names it
-abbrev pub IsMadeOf : (ℕ → Type 0) → Effect → Type 0
+abbrev pub IsMadeOf : (ℕ → Type 0) → NativeEffect → Type 0
 IsMadeOf P (Answers answer) = ⊤
 IsMadeOf P (MakesText units) = ⊤
 IsMadeOf P (MakesArray kind values) = P kind
@@ -161,15 +161,15 @@ taken (row ∷ rs) (suc number) all = taken rs number (and_parts (takes_object r
 module _ (P : ℕ → Type 0) where
   -- ---- effects by cases
 
-  either : (b : Bool) (x y : Effect) → IsMadeOf P x → IsMadeOf P y → IsMadeOf P (if b then x else y)
+  either : (b : Bool) (x y : NativeEffect) → IsMadeOf P x → IsMadeOf P y → IsMadeOf P (if b then x else y)
   either true x y one other = one
   either false x y one other = other
 
-  found : {A : Type 0} (f : A → Effect) (o : Option A) (x : Effect) → ((a : A) → IsMadeOf P (f a)) → IsMadeOf P x → IsMadeOf P (option_map_or f o x)
+  found : {A : Type 0} (f : A → NativeEffect) (o : Option A) (x : NativeEffect) → ((a : A) → IsMadeOf P (f a)) → IsMadeOf P x → IsMadeOf P (option_map_or f o x)
   found f None x each other = other
   found f (Some a) x each other = each a
 
-  not-null : (argument : ℕ) (x : Effect) → IsMadeOf P x → IsMadeOf P (unless_null argument x)
+  not-null : (argument : ℕ) (x : NativeEffect) → IsMadeOf P x → IsMadeOf P (unless_null argument x)
   not-null argument x is = either (argument == 0) (throws null_pointer_exception) x tt is
 
   -- ---- java/lang/Object and java/lang/Class

@@ -12,7 +12,7 @@ use Rattle.inject_events.specs.declared.image.Image.{Image}
 use Rattle.jvm_machine.specs.Installs.{IsImageOf, with_class}
 use Rattle.jvm_machine.specs.View.{View}
 use Rattle.profile_session.specs.declared.swap.Swap.{Swap}
-use Rattle.profile_session.specs.declared.swapping.Made.{Made}
+use Rattle.profile_session.specs.declared.swapping.Redefinition.{Redefinition}
 use Rattle.profile_session.specs.Images.{image_bytes, image_for, marks_for}
 use Rattle.profile_session.specs.Keeping.{swapped_now}
 
@@ -36,7 +36,7 @@ pub record IsImaged (p : Program) (class : ℕ) (marks : List Mark) (image : Ima
   pub made : IsImageOf p class marks image.class image.homes
 
 -- what a class is redefined by
-pub record IsMade (p : Program) (r : Revealed) (class : ℕ) (m : Made) : Type 0 where
+pub record IsMade (p : Program) (r : Revealed) (class : ℕ) (m : Redefinition) : Type 0 where
   pub marks : m.marks.items ≡ marks_for p r class
   pub image : Image
   pub imaged : IsImaged p class (marks_for p r class) image

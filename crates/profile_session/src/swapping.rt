@@ -23,7 +23,7 @@ use std::alloc::Global;
 
 /// What redefines a class: the marks of its methods, and the bytes and homes of its image.
 #[derive(Drop)]
-pub struct Made {
+pub struct Redefinition {
     pub marks: Vec<Mark>,
     pub bytes: Vec<u8>,
     pub homes: Seq<Option<Homes>>,
@@ -94,7 +94,12 @@ fn method_count(program: &Program, class: u32) -> usize
 }
 
 /// What redefines a class for the marks of now.
-fn make(alloc: Global, reveal: &Reveal, program: &Program, class: u32) -> Result<Made, NoMemory>
+fn make(
+    alloc: Global,
+    reveal: &Reveal,
+    program: &Program,
+    class: u32,
+) -> Result<Redefinition, NoMemory>
     requires revelation { IsRevelation program.now reveal.now }
     requires known { class < length program.now.classes }
     requires imageable { AreImageable program.now }
@@ -107,7 +112,7 @@ fn make(alloc: Global, reveal: &Reveal, program: &Program, class: u32) -> Result
         homes,
     } = image_for(alloc, program, class, &marks)?;
     let bytes = write_class(alloc, &image)?;
-    Ok(Made {
+    Ok(Redefinition {
         marks,
         bytes,
         homes,

@@ -8,8 +8,8 @@ use Rattle.heap_objects.specs.declared.datum.Datum.{Datum}
 use Rattle.heap_objects.specs.declared.datum.Datum.TheVariants as datum
 use Rattle.heap_objects.specs.Heaps.{HeapView}
 use Rattle.native_effects.specs.declared.effects.answer.Answer.TheVariants as answer
-use Rattle.native_effects.specs.declared.effects.effect.Effect.{Effect}
-use Rattle.native_effects.specs.declared.effects.effect.Effect.TheVariants.{Answers, MakesText, MakesArray, MakesInstance, Appends, Replaces, PutsUnit, Resizes, Interns, Prints, Reads, Stores, SetsFields, GivesClass, GivesBox}
+use Rattle.native_effects.specs.declared.effects.effect.NativeEffect.{NativeEffect}
+use Rattle.native_effects.specs.declared.effects.effect.NativeEffect.TheVariants.{Answers, MakesText, MakesArray, MakesInstance, Appends, Replaces, PutsUnit, Resizes, Interns, Prints, Reads, Stores, SetsFields, GivesClass, GivesBox}
 use Rattle.native_ops.specs.declared.methods.method.Method.{Method}
 use Rattle.native_ops.specs.declared.methods.method.Method.TheVariants as method
 use Rattle.native_ops.specs.declared.methods.method.ObjectMethod.{ObjectMethod}
@@ -92,7 +92,7 @@ IsNarrow (answer.Exit status) = ⊥
 IsNarrow answer.Bad = ⊥
 
 -- an effect that stores no values, and whose own answer is such a one where it changes a text
-abbrev pub IsStill : Effect → Type 0
+abbrev pub IsStill : NativeEffect → Type 0
 IsStill (Stores array place values answer) = ⊥
 IsStill (Replaces object units value) = IsNarrowValue value
 IsStill (Answers answer) = ⊤
@@ -151,15 +151,15 @@ copying (row ∷ rs) from (suc number) all =
 
 -- ---- effects by cases
 
-either : (b : Bool) (x y : Effect) → IsStill x → IsStill y → IsStill (if b then x else y)
+either : (b : Bool) (x y : NativeEffect) → IsStill x → IsStill y → IsStill (if b then x else y)
 either true x y one other = one
 either false x y one other = other
 
-found : {A : Type 0} (f : A → Effect) (o : Option A) (x : Effect) → ((a : A) → IsStill (f a)) → IsStill x → IsStill (option_map_or f o x)
+found : {A : Type 0} (f : A → NativeEffect) (o : Option A) (x : NativeEffect) → ((a : A) → IsStill (f a)) → IsStill x → IsStill (option_map_or f o x)
 found f None x each other = other
 found f (Some a) x each other = each a
 
-not-null : (argument : ℕ) (x : Effect) → IsStill x → IsStill (unless_null argument x)
+not-null : (argument : ℕ) (x : NativeEffect) → IsStill x → IsStill (unless_null argument x)
 not-null argument x is = either (argument == 0) (throws null_pointer_exception) x tt is
 
 -- ---- java/lang/Object and java/lang/Class
@@ -421,7 +421,7 @@ made-keeps true full w new more known a narrow = inr tt
 made-keeps false true w new more known a narrow = inl refl
 made-keeps false false w new more known a narrow = inr narrow
 
-pub still-keeps : (e : Effect) (w : World) → IsStill e → Keeps (answer_of e w) (after e w) w
+pub still-keeps : (e : NativeEffect) (w : World) → IsStill e → Keeps (answer_of e w) (after e w) w
 still-keeps (Answers answer) w still = inl refl
 still-keeps (MakesText units) w still = full-keeps (is_full (1 + length units) w.heap) w _ _ tt
 still-keeps (MakesArray kind values) w still = full-keeps (is_full (1 + length values) w.heap) w _ _ tt

@@ -3,8 +3,8 @@
 use Rattle.std.specs.Prelude.{ℕ, ◌+◌, Bool, true, false, not, List, [], ◌∷◌, length, drop, take, flat_map, count_by, Option, Some, None, Result, slice_get, ◌&&◌}
 use Rattle.std.specs.Bool.{beq}
 use Rattle.std.specs.Option.{option_and_then, option_map, option_map_or}
-use Rattle.heap_objects.specs.declared.element.Element.{Element}
-use Rattle.heap_objects.specs.declared.element.Element.TheVariants as element
+use Rattle.heap_objects.specs.declared.element.ElementType.{ElementType}
+use Rattle.heap_objects.specs.declared.element.ElementType.TheVariants as element
 use Rattle.heap_objects.specs.declared.Value.TheVariants.{Ref}
 use Rattle.heap_objects.specs.Heaps.{slot_at, with_slot_at}
 use Rattle.heap_objects.specs.Kept.{element_kept}
@@ -44,7 +44,7 @@ named_field p loaded static r =
 abbrev pub kind_by : Reference → Kind
 kind_by r = held_by r.member.descriptor
 
-abbrev pub element_for : Kind → Element
+abbrev pub element_for : Kind → ElementType
 element_for kind.Bool = element.Boolean
 element_for kind.Byte = element.Byte
 element_for kind.Char = element.Char

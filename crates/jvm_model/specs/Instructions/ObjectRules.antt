@@ -4,8 +4,8 @@ use Rattle.std.specs.Prelude.{ℕ, ◌+◌, ◌-◌, Bool, true, false, [], ◌�
 use Rattle.std.specs.Option.{option_and_then, option_map, option_map_or}
 use Rattle.std.specs.Fmt.{signed_decimal}
 use Rattle.heap_objects.specs.declared.datum.Datum.TheVariants as datum
-use Rattle.heap_objects.specs.declared.element.Element.{Element}
-use Rattle.heap_objects.specs.declared.element.Element.TheVariants as element
+use Rattle.heap_objects.specs.declared.element.ElementType.{ElementType}
+use Rattle.heap_objects.specs.declared.element.ElementType.TheVariants as element
 use Rattle.heap_objects.specs.declared.Value.TheVariants.{Int, Ref}
 use Rattle.heap_objects.specs.Heaps.{HeapView, has_slot_at, kind_at, length_at, next_number, slot_at, with_array, with_slot_at}
 use Rattle.heap_objects.specs.Kinds.{element_of}
@@ -63,7 +63,7 @@ makes kind (Some (pos count)) s l o = makes_array kind count s l o
 -- ---- elements: iaload, .., saload, iastore, .., sastore
 
 -- instructions of this kind serve arrays of these elements
-abbrev pub serves : Kind → Element → Bool
+abbrev pub serves : Kind → ElementType → Bool
 serves kind.Int element.Int = true
 serves kind.Long element.Long = true
 serves kind.Ref element.Reference = true

@@ -3,8 +3,8 @@ use Rattle.std.specs.Prelude.{ℕ, List, [], None}
 use Rattle.heap_objects.specs.Heaps.{HeapView}
 use Rattle.native_effects.specs.declared.effects.answer.Answer.{Answer}
 use Rattle.native_effects.specs.declared.effects.answer.Answer.TheVariants.{Value}
-use Rattle.native_effects.specs.declared.effects.effect.Effect.{Effect}
-use Rattle.native_effects.specs.declared.effects.effect.Effect.TheVariants.{Answers, MakesText, MakesArray, MakesInstance, Appends, Replaces, PutsUnit, Resizes, Interns, Prints, Reads, Stores, SetsFields, GivesClass, GivesBox}
+use Rattle.native_effects.specs.declared.effects.effect.NativeEffect.{NativeEffect}
+use Rattle.native_effects.specs.declared.effects.effect.NativeEffect.TheVariants.{Answers, MakesText, MakesArray, MakesInstance, Appends, Replaces, PutsUnit, Resizes, Interns, Prints, Reads, Stores, SetsFields, GivesClass, GivesBox}
 use Rattle.native_effects.specs.Inputs.MadeViews.{MadeView}
 use Rattle.native_effects.specs.Effects.Ports.{answer_of_read, after_read, with_output}
 use Rattle.native_effects.specs.Effects.Making.{answer_of_text, heap_with_text, answer_of_array, heap_with_array, answer_of_instance, heap_with_instance, answer_of_append, heap_with_append, answer_of_replace, heap_with_replace, answer_of_unit, heap_with_unit, answer_of_resize, heap_with_resize, answer_of_intern, heap_with_interned, with_values, with_fields, answer_of_class, heap_after_class, made_after_class, answer_of_box, heap_after_box, made_after_box}
@@ -23,7 +23,7 @@ abbrev pub world : HeapView → MadeView → List ℕ → ℕ → World
 world heap made input read = record { heap = heap; made = made; input = input; read = read; wrote = [] }
 
 -- what is answered
-abbrev pub answer_of : Effect → World → Answer
+abbrev pub answer_of : NativeEffect → World → Answer
 answer_of (Answers answer) w = answer
 answer_of (MakesText units) w = answer_of_text units w.heap
 answer_of (MakesArray kind values) w = answer_of_array values w.heap
@@ -41,7 +41,7 @@ answer_of (GivesClass kind) w = answer_of_class kind w.made w.heap
 answer_of (GivesBox kind place value) w = answer_of_box kind place w.made w.heap
 
 -- what is changed
-abbrev pub after : Effect → World → World
+abbrev pub after : NativeEffect → World → World
 after (Answers answer) w = w
 after (MakesText units) w = record w { heap = heap_with_text units w.heap }
 after (MakesArray kind values) w = record w { heap = heap_with_array kind values w.heap }

@@ -7,7 +7,7 @@ ghost use Rattle.native_effects.specs.Effects.Making.{answer_of_box, heap_after_
 ghost use Rattle.native_effects.specs.Effects.Worlds.{world, answer_of, after};
 
 use crate::effects::answer::Answer;
-use crate::effects::effect::Effect;
+use crate::effects::effect::NativeEffect;
 use crate::effects::made::Made;
 use crate::effects::making::{
     append, intern, make_array, make_instance, make_text, object_answer, put_fields, put_unit,
@@ -47,7 +47,7 @@ fn give_box(
 /// Does what an effect says, and answers. An Err changes nothing.
 pub fn carry_out(
     alloc: Global,
-    effect: Effect,
+    effect: NativeEffect,
     heap: &mut Heap,
     made: &mut Made,
     input: &[u8],
@@ -66,26 +66,26 @@ pub fn carry_out(
         (world heap.old made.old input.now read.old)).wrote }
 {
     match effect {
-        Effect::Answers(answer) => Ok(answer),
-        Effect::MakesText(units) => make_text(units, heap),
-        Effect::MakesArray(kind, values) => make_array(kind, values.as_slice(), heap),
-        Effect::MakesInstance(kind, fields) => make_instance(kind, fields.as_slice(), heap),
-        Effect::Appends(object, units) => append(object, units.as_slice(), heap),
-        Effect::Replaces(object, units, value) => replace(object, units, value, heap),
-        Effect::PutsUnit(object, at, unit) => Ok(put_unit(object, at, unit, heap)),
-        Effect::Resizes(object, size) => resize(alloc, object, size, heap),
-        Effect::Interns(units) => intern(units.as_slice(), heap),
-        Effect::Prints(units) => print(alloc, units, output),
-        Effect::Reads => Ok(read_byte(input, read)),
-        Effect::Stores(array, place, values, answer) => {
+        NativeEffect::Answers(answer) => Ok(answer),
+        NativeEffect::MakesText(units) => make_text(units, heap),
+        NativeEffect::MakesArray(kind, values) => make_array(kind, values.as_slice(), heap),
+        NativeEffect::MakesInstance(kind, fields) => make_instance(kind, fields.as_slice(), heap),
+        NativeEffect::Appends(object, units) => append(object, units.as_slice(), heap),
+        NativeEffect::Replaces(object, units, value) => replace(object, units, value, heap),
+        NativeEffect::PutsUnit(object, at, unit) => Ok(put_unit(object, at, unit, heap)),
+        NativeEffect::Resizes(object, size) => resize(alloc, object, size, heap),
+        NativeEffect::Interns(units) => intern(units.as_slice(), heap),
+        NativeEffect::Prints(units) => print(alloc, units, output),
+        NativeEffect::Reads => Ok(read_byte(input, read)),
+        NativeEffect::Stores(array, place, values, answer) => {
             put_values(array, place, values.as_slice(), heap);
             Ok(answer)
         }
-        Effect::SetsFields(object, first, second) => {
+        NativeEffect::SetsFields(object, first, second) => {
             put_fields(object, first, second, heap);
             Ok(Answer::Value(None))
         }
-        Effect::GivesClass(kind) => give_class(kind, heap, made),
-        Effect::GivesBox(kind, place, value) => give_box(kind, place, value, heap, made),
+        NativeEffect::GivesClass(kind) => give_class(kind, heap, made),
+        NativeEffect::GivesBox(kind, place, value) => give_box(kind, place, value, heap, made),
     }
 }

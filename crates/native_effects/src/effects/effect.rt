@@ -9,7 +9,7 @@ use jf_bytes::Seq;
 
 /// What is to be done, and answered.
 #[derive(Drop)]
-pub enum Effect {
+pub enum NativeEffect {
     /// Nothing but an answer.
     Answers(Answer),
     /// A new String of these units is made, and is the answer.
@@ -43,43 +43,43 @@ pub enum Effect {
 }
 
 /// The answer of a method that returns no value.
-pub fn gives_nothing() -> Effect
+pub fn gives_nothing() -> NativeEffect
     ensures { result ≡ gives_nothing }
 {
-    Effect::Answers(Answer::Value(None))
+    NativeEffect::Answers(Answer::Value(None))
 }
 
 /// This int is the answer.
-pub fn gives_int(n: i32) -> Effect
+pub fn gives_int(n: i32) -> NativeEffect
     ensures { result ≡ gives_int n }
 {
-    Effect::Answers(Answer::Value(Some(Datum::Int(n))))
+    NativeEffect::Answers(Answer::Value(Some(Datum::Int(n))))
 }
 
 /// This long is the answer.
-pub fn gives_long(n: i64) -> Effect
+pub fn gives_long(n: i64) -> NativeEffect
     ensures { result ≡ gives_long n }
 {
-    Effect::Answers(Answer::Value(Some(Datum::Long(n))))
+    NativeEffect::Answers(Answer::Value(Some(Datum::Long(n))))
 }
 
 /// This boolean is the answer, as an int.
-pub fn gives_boolean(b: bool) -> Effect
+pub fn gives_boolean(b: bool) -> NativeEffect
     ensures { result ≡ gives_boolean b }
 {
     gives_int(if b { 1 } else { 0 })
 }
 
 /// The object of this number is the answer, and null for 0.
-pub fn gives_reference(r: u32) -> Effect
+pub fn gives_reference(r: u32) -> NativeEffect
     ensures { result ≡ gives_reference r }
 {
-    Effect::Answers(Answer::Value(Some(Datum::Ref(r))))
+    NativeEffect::Answers(Answer::Value(Some(Datum::Ref(r))))
 }
 
 /// An exception of the built-in class at this place.
-pub fn throws(class: u16) -> Effect
+pub fn throws(class: u16) -> NativeEffect
     ensures { result ≡ throws class }
 {
-    Effect::Answers(Answer::Throws(class))
+    NativeEffect::Answers(Answer::Throws(class))
 }

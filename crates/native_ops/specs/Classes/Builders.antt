@@ -5,8 +5,8 @@ use Rattle.std.specs.Option.{option_map_or}
 use Rattle.heap_objects.specs.declared.datum.Datum.{Datum}
 use Rattle.heap_objects.specs.declared.datum.Datum.TheVariants.{Ref}
 use Rattle.heap_objects.specs.Heaps.{HeapView}
-use Rattle.native_effects.specs.declared.effects.effect.Effect.{Effect}
-use Rattle.native_effects.specs.declared.effects.effect.Effect.TheVariants.{MakesText, Appends, Replaces, PutsUnit, Resizes}
+use Rattle.native_effects.specs.declared.effects.effect.NativeEffect.{NativeEffect}
+use Rattle.native_effects.specs.declared.effects.effect.NativeEffect.TheVariants.{MakesText, Appends, Replaces, PutsUnit, Resizes}
 use Rattle.native_effects.specs.declared.inputs.printable.Printable.{Printable}
 use Rattle.native_ops.specs.declared.methods.method.BuilderMethod.{BuilderMethod}
 use Rattle.native_ops.specs.declared.methods.method.BuilderMethod.TheVariants.{Init, InitCapacity, InitText, Append, Length, CharAt, SetCharAt, SetLength, DeleteCharAt, ToText}
@@ -19,22 +19,22 @@ use Rattle.native_effects.specs.Inputs.Shown.{argument_shown, is_null_array}
 use Rattle.native_ops.specs.Classes.Strings.{init_text, char_at}
 
 -- a capacity is no part of a text
-abbrev pub init_capacity : ℕ → ℤ → Effect
+abbrev pub init_capacity : ℕ → ℤ → NativeEffect
 init_capacity object (pos n) = Replaces object [] None
 init_capacity object (negsuc n) = throws negative_array_size_exception
 
-abbrev pub append : Printable → List Datum → HeapView → Effect
+abbrev pub append : Printable → List Datum → HeapView → NativeEffect
 append what args h =
     if is_null_array what 1 args
     then throws null_pointer_exception
     else Appends (reference_in args 0) (argument_shown what 1 args h)
 
-abbrev pub set_char_at : ℕ → ℤ → ℕ → HeapView → Effect
+abbrev pub set_char_at : ℕ → ℤ → ℕ → HeapView → NativeEffect
 set_char_at object place unit h =
     option_map_or (λ at. PutsUnit object at unit) (place_in place (length (text_at object h)))
     (throws string_index_out_of_bounds_exception)
 
-abbrev pub set_length : ℕ → ℤ → Effect
+abbrev pub set_length : ℕ → ℤ → NativeEffect
 set_length object (pos n) = Resizes object n
 set_length object (negsuc n) = throws string_index_out_of_bounds_exception
 
@@ -42,12 +42,12 @@ set_length object (negsuc n) = throws string_index_out_of_bounds_exception
 abbrev pub without : ℕ → List ℕ → List ℕ
 without place units = take place units ++ drop (place + 1) units
 
-abbrev pub delete_char_at : ℕ → ℤ → HeapView → Effect
+abbrev pub delete_char_at : ℕ → ℤ → HeapView → NativeEffect
 delete_char_at object place h =
     option_map_or (λ i. Replaces object (without i (text_at object h)) (Some (Ref object))) (place_in place (length (text_at object h)))
     (throws string_index_out_of_bounds_exception)
 
-abbrev pub builder_effect : BuilderMethod → List Datum → HeapView → Effect
+abbrev pub builder_effect : BuilderMethod → List Datum → HeapView → NativeEffect
 builder_effect Init args h = Replaces (reference_in args 0) [] None
 builder_effect InitCapacity args h = init_capacity (reference_in args 0) (int_in args 1)
 builder_effect InitText args h = init_text (reference_in args 0) (reference_in args 1) h

@@ -7,8 +7,8 @@ use Rattle.int_ops.specs.Arithmetic.{wrapped_negation}
 use Rattle.heap_objects.specs.declared.datum.Datum.{Datum}
 use Rattle.heap_objects.specs.declared.datum.Datum.TheVariants.{Int}
 use Rattle.heap_objects.specs.Heaps.{HeapView}
-use Rattle.native_effects.specs.declared.effects.effect.Effect.{Effect}
-use Rattle.native_effects.specs.declared.effects.effect.Effect.TheVariants.{MakesText, GivesBox}
+use Rattle.native_effects.specs.declared.effects.effect.NativeEffect.{NativeEffect}
+use Rattle.native_effects.specs.declared.effects.effect.NativeEffect.TheVariants.{MakesText, GivesBox}
 use Rattle.native_ops.specs.declared.methods.method.CharacterMethod.{CharacterMethod}
 use Rattle.native_ops.specs.declared.methods.method.CharacterMethod.TheVariants as character
 use Rattle.native_ops.specs.declared.methods.method.BooleanMethod.{BooleanMethod}
@@ -41,7 +41,7 @@ abbrev pub same_boxes : KindsView → ℕ → ℕ → ℕ → HeapView → Bool
 same_boxes kinds kind object other h =
     is_instance kinds kind other h && int_eq (int_field object 0 h) (int_field other 0 h)
 
-abbrev pub character_effect : CharacterMethod → KindsView → List Datum → HeapView → Effect
+abbrev pub character_effect : CharacterMethod → KindsView → List Datum → HeapView → NativeEffect
 character_effect character.ValueOf kinds args h = box_of character_kind (char_place (char_in args 0)) (Int (pos (char_in args 0)))
 character_effect character.TextOf kinds args h = MakesText (char_in args 0 ∷ [])
 character_effect character.IsDigit kinds args h = gives_boolean (is_digit (char_in args 0))
@@ -68,7 +68,7 @@ boolean_value object h = not (int_eq (int_field object 0 h) (pos 0))
 abbrev pub parse_boolean : ℕ → HeapView → Bool
 parse_boolean object h = is_true (text_at object h)
 
-abbrev pub boolean_effect : BooleanMethod → KindsView → List Datum → HeapView → Effect
+abbrev pub boolean_effect : BooleanMethod → KindsView → List Datum → HeapView → NativeEffect
 boolean_effect boolean.ValueOf kinds args h =
     GivesBox boolean_kind (bit_of (boolean_in args 0)) (Int (pos (bit_of (boolean_in args 0))))
 boolean_effect boolean.Parse kinds args h = gives_boolean (parse_boolean (reference_in args 0) h)
@@ -87,7 +87,7 @@ absolute_int n = if int_lt n (pos 0) then wrapped_negation w32 n else n
 abbrev pub absolute_long : ℤ → ℤ
 absolute_long n = if int_lt n (pos 0) then wrapped_negation w64 n else n
 
-abbrev pub math_effect : MathMethod → List Datum → Effect
+abbrev pub math_effect : MathMethod → List Datum → NativeEffect
 math_effect AbsInt args = gives_int (absolute_int (int_in args 0))
 math_effect MaxInt args = gives_int (int_max (int_in args 0) (int_in args 1))
 math_effect MinInt args = gives_int (int_min (int_in args 0) (int_in args 1))

@@ -4,8 +4,8 @@ use Rattle.heap_objects.specs.declared.datum.Datum.{Datum}
 use Rattle.heap_objects.specs.Heaps.{HeapView}
 use Rattle.heap_objects.specs.Kept.{reference_of}
 use Rattle.native_effects.specs.declared.effects.answer.Answer.TheVariants.{Value, Throws, Exit as Exits}
-use Rattle.native_effects.specs.declared.effects.effect.Effect.{Effect}
-use Rattle.native_effects.specs.declared.effects.effect.Effect.TheVariants.{Answers, Stores}
+use Rattle.native_effects.specs.declared.effects.effect.NativeEffect.{NativeEffect}
+use Rattle.native_effects.specs.declared.effects.effect.NativeEffect.TheVariants.{Answers, Stores}
 use Rattle.native_ops.specs.declared.methods.method.SystemMethod.{SystemMethod}
 use Rattle.native_ops.specs.declared.methods.method.SystemMethod.TheVariants.{Exit, Arraycopy, IdentityHashCode}
 use Rattle.native_effects.specs.Inputs.Numbers.{array_store_exception, array_index_out_of_bounds_exception, null_pointer_exception, first_array_kind, first_reference_array_kind}
@@ -36,25 +36,25 @@ storable kinds kind h [] = []
 storable kinds kind h (v ∷ values) = if may_store kinds kind h v then v ∷ storable kinds kind h values else []
 
 -- The values are stored from a place on, up to the first that may not.
-abbrev pub store : KindsView → ℕ → ℕ → List Datum → HeapView → Effect
+abbrev pub store : KindsView → ℕ → ℕ → List Datum → HeapView → NativeEffect
 store kinds array place values h =
     let fitting = storable kinds (kind_or_none array h) h values in
     Stores array place fitting (if length fitting == length values then Value None else Throws array_store_exception)
 
-abbrev pub copy_ranges : KindsView → ℕ → ℕ → Option (ℕ × ℕ) → Option (ℕ × ℕ) → HeapView → Effect
+abbrev pub copy_ranges : KindsView → ℕ → ℕ → Option (ℕ × ℕ) → Option (ℕ × ℕ) → HeapView → NativeEffect
 copy_ranges kinds from to (Some source) (Some target) h =
     store kinds to target.0 (between source.0 source.1 (values_at from h)) h
 copy_ranges kinds from to (Some source) None h = throws array_index_out_of_bounds_exception
 copy_ranges kinds from to None target h = throws array_index_out_of_bounds_exception
 
-abbrev pub arraycopy : KindsView → ℕ → ℤ → ℕ → ℤ → ℤ → HeapView → Effect
+abbrev pub arraycopy : KindsView → ℕ → ℤ → ℕ → ℤ → ℤ → HeapView → NativeEffect
 arraycopy kinds from from_place to to_place count h =
     if from == 0 || to == 0 then throws null_pointer_exception else
     if can_copy (kind_or_none from h) (kind_or_none to h)
     then copy_ranges kinds from to (counted_range from_place count (size_at from h)) (counted_range to_place count (size_at to h)) h
     else throws array_store_exception
 
-abbrev pub system_effect : SystemMethod → KindsView → List Datum → HeapView → Effect
+abbrev pub system_effect : SystemMethod → KindsView → List Datum → HeapView → NativeEffect
 system_effect Exit kinds args h = Answers (Exits (int_in args 0))
 system_effect Arraycopy kinds args h =
     arraycopy kinds (reference_in args 0) (int_in args 1) (reference_in args 2) (int_in args 3) (int_in args 4) h

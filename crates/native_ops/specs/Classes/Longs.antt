@@ -7,8 +7,8 @@ use Rattle.int_ops.specs.Arithmetic.{comparison}
 use Rattle.heap_objects.specs.declared.datum.Datum.{Datum}
 use Rattle.heap_objects.specs.declared.datum.Datum.TheVariants.{Long}
 use Rattle.heap_objects.specs.Heaps.{HeapView}
-use Rattle.native_effects.specs.declared.effects.effect.Effect.{Effect}
-use Rattle.native_effects.specs.declared.effects.effect.Effect.TheVariants.{MakesText}
+use Rattle.native_effects.specs.declared.effects.effect.NativeEffect.{NativeEffect}
+use Rattle.native_effects.specs.declared.effects.effect.NativeEffect.TheVariants.{MakesText}
 use Rattle.native_ops.specs.declared.methods.method.LongMethod.{LongMethod}
 use Rattle.native_ops.specs.declared.methods.method.LongMethod.TheVariants.{ValueOf, Parse, TextOf, IntValue, LongValue, Equals, HashCode, ToText, CompareTo}
 use Rattle.native_effects.specs.Inputs.Numbers.{long_kind}
@@ -21,7 +21,7 @@ use Rattle.native_ops.specs.Classes.Boxes.{small_place, box_of, gives_parsed_lon
 use Rattle.native_effects.specs.Effects.Answers.{gives_int, gives_long, gives_boolean}
 
 -- null is no number
-abbrev pub parse_long : ℕ → HeapView → Effect
+abbrev pub parse_long : ℕ → HeapView → NativeEffect
 parse_long object h = gives_parsed_long (if object == 0 then None else number_parsed 63 (text_at object h))
 
 -- the exclusive or of the low and the high half
@@ -32,11 +32,11 @@ abbrev pub same_longs : KindsView → ℕ → ℕ → HeapView → Bool
 same_longs kinds object other h =
     is_instance kinds long_kind other h && int_eq (long_field object 0 h) (long_field other 0 h)
 
-abbrev pub compare_longs : KindsView → ℕ → ℕ → HeapView → Effect
+abbrev pub compare_longs : KindsView → ℕ → ℕ → HeapView → NativeEffect
 compare_longs kinds object other h =
     compared_if other (is_instance kinds long_kind other h) (comparison (long_field object 0 h) (long_field other 0 h))
 
-abbrev pub long_effect : LongMethod → KindsView → List Datum → HeapView → Effect
+abbrev pub long_effect : LongMethod → KindsView → List Datum → HeapView → NativeEffect
 long_effect ValueOf kinds args h = box_of long_kind (small_place (long_in args 0)) (Long (long_in args 0))
 long_effect Parse kinds args h = parse_long (reference_in args 0) h
 long_effect TextOf kinds args h = MakesText (text_of_number (long_in args 0))

@@ -4,8 +4,8 @@ use Rattle.std.specs.Prelude.{ℕ, ◌-◌, ◌/◌, ◌%◌, ◌==◌, pos, fal
 use Rattle.std.specs.Fmt.{digits}
 use Rattle.heap_objects.specs.declared.datum.Datum.{Datum}
 use Rattle.heap_objects.specs.Heaps.{HeapView}
-use Rattle.native_effects.specs.declared.effects.effect.Effect.{Effect}
-use Rattle.native_effects.specs.declared.effects.effect.Effect.TheVariants.{MakesText, MakesArray, MakesInstance, GivesClass}
+use Rattle.native_effects.specs.declared.effects.effect.NativeEffect.{NativeEffect}
+use Rattle.native_effects.specs.declared.effects.effect.NativeEffect.TheVariants.{MakesText, MakesArray, MakesInstance, GivesClass}
 use Rattle.native_ops.specs.declared.methods.method.ObjectMethod.{ObjectMethod}
 use Rattle.native_ops.specs.declared.methods.method.ObjectMethod.TheVariants.{Init, Equals, HashCode, ToText, GetClass, Clone}
 use Rattle.native_ops.specs.declared.methods.method.ClassMethod.{ClassMethod}
@@ -51,7 +51,7 @@ abbrev pub object_text : KindsView → ℕ → HeapView → List ℕ
 object_text kinds object h = name_of_kind kinds (kind_or_none object h) ++ 64 ∷ digits 16 false object
 
 -- a copy of an array or of an instance of a class that allows it, which has the same values
-abbrev pub clone : KindsView → ℕ → ℕ → HeapView → Effect
+abbrev pub clone : KindsView → ℕ → ℕ → HeapView → NativeEffect
 clone kinds kind object h =
     if nat_lt kind first_array_kind
     then (if kinds.subtype kind cloneable_kind
@@ -59,7 +59,7 @@ clone kinds kind object h =
     else throws clone_not_supported_exception)
     else MakesArray kind (values_at object h)
 
-abbrev pub object_effect : ObjectMethod → KindsView → List Datum → HeapView → Effect
+abbrev pub object_effect : ObjectMethod → KindsView → List Datum → HeapView → NativeEffect
 object_effect Init kinds args h = gives_nothing
 object_effect Equals kinds args h = gives_boolean (reference_in args 0 == reference_in args 1)
 object_effect HashCode kinds args h = gives_int (number_as_int (reference_in args 0))
@@ -69,7 +69,7 @@ object_effect Clone kinds args h = clone kinds (kind_or_none (reference_in args 
 
 -- ---- java/lang/Class
 
-abbrev pub class_effect : ClassMethod → KindsView → List Datum → MadeView → Effect
+abbrev pub class_effect : ClassMethod → KindsView → List Datum → MadeView → NativeEffect
 class_effect GetName kinds args m =
     MakesText (name_of_kind kinds (unwrap_or (class_of_object (reference_in args 0) m.classes) 0))
 class_effect DesiredAssertionStatus kinds args m = gives_int (pos 0)

@@ -8,8 +8,8 @@ use Rattle.native_effects.specs.declared.effects.answer.Answer.{Answer}
 use Rattle.native_effects.specs.declared.effects.answer.Answer.TheVariants as answer
 use Rattle.native_effects.specs.declared.effects.answer.Native.{Native}
 use Rattle.native_effects.specs.declared.effects.answer.Native.TheVariants as native
-use Rattle.native_effects.specs.declared.effects.effect.Effect.{Effect}
-use Rattle.native_effects.specs.declared.effects.effect.Effect.TheVariants.{Answers}
+use Rattle.native_effects.specs.declared.effects.effect.NativeEffect.{NativeEffect}
+use Rattle.native_effects.specs.declared.effects.effect.NativeEffect.TheVariants.{Answers}
 use Rattle.native_ops.specs.declared.methods.rows.Row.{Row}
 use Rattle.native_ops.specs.declared.methods.method.Method.{Method}
 use Rattle.native_ops.specs.declared.methods.method.Method.TheVariants as method
@@ -29,7 +29,7 @@ use Rattle.native_ops.specs.Methods.Signatures.{parameters_of, fit}
 use Rattle.native_ops.specs.Methods.Rows.{rows}
 use Rattle.native_effects.specs.Effects.Worlds.{World, answer_of, after}
 
-abbrev pub method_effect : Method → KindsView → List Datum → HeapView → MadeView → Effect
+abbrev pub method_effect : Method → KindsView → List Datum → HeapView → MadeView → NativeEffect
 method_effect (method.Object m) kinds args h made = object_effect m kinds args h
 method_effect (method.Class m) kinds args h made = class_effect m kinds args made
 method_effect (method.Text m) kinds args h made = string_effect m args h
@@ -46,13 +46,13 @@ method_effect (method.Enum m) kinds args h made = enum_effect m kinds args h
 method_effect (method.Throwable m) kinds args h made = throwable_effect m args h
 
 -- arguments that do not fit are told, and nothing is done
-abbrev pub row_effect : Row → KindsView → List Datum → HeapView → MadeView → Effect
+abbrev pub row_effect : Row → KindsView → List Datum → HeapView → MadeView → NativeEffect
 row_effect row kinds args h made =
     if fit row.receiver (parameters_of row.parameters) kinds args h
     then method_effect row.method kinds args h made
     else Answers answer.Bad
 
-abbrev pub effect_of : ℕ → KindsView → List Datum → World → Effect
+abbrev pub effect_of : ℕ → KindsView → List Datum → World → NativeEffect
 effect_of number kinds args w =
     option_map_or (λ row. row_effect row kinds args w.heap w.made) (slice_get rows number) (Answers answer.Bad)
 

@@ -6,7 +6,7 @@ ghost use Rattle.native_ops.specs.Classes.Boxes.{small_place, char_place, box_of
 use base_classes::{CLASS_CAST_EXCEPTION, NULL_POINTER_EXCEPTION, NUMBER_FORMAT_EXCEPTION};
 use heap_objects::Datum;
 use jf_bytes::{NoMemory, Seq};
-use native_effects::{Effect, gives_int, gives_long, throws};
+use native_effects::{NativeEffect, gives_int, gives_long, throws};
 use std::alloc::Global;
 
 /// The place of a value among those whose box is made once.
@@ -36,19 +36,19 @@ pub fn box_of(
     kind: u32,
     place: Option<u32>,
     value: Datum,
-) -> Result<Effect, NoMemory>
+) -> Result<NativeEffect, NoMemory>
     ensures { IfOk result (λ e. e ≡ box_of kind place value) }
 {
     if let Some(place) = place {
-        return Ok(Effect::GivesBox(kind, place, value));
+        return Ok(NativeEffect::GivesBox(kind, place, value));
     }
     let mut fields = Seq::new(alloc);
     fields.push(value)?;
-    Ok(Effect::MakesInstance(kind, fields))
+    Ok(NativeEffect::MakesInstance(kind, fields))
 }
 
 /// The int that was read.
-pub fn gives_parsed_int(number: Option<i32>) -> Effect
+pub fn gives_parsed_int(number: Option<i32>) -> NativeEffect
     ensures { result ≡ gives_parsed_int number }
 {
     match number {
@@ -58,7 +58,7 @@ pub fn gives_parsed_int(number: Option<i32>) -> Effect
 }
 
 /// The long that was read.
-pub fn gives_parsed_long(number: Option<i64>) -> Effect
+pub fn gives_parsed_long(number: Option<i64>) -> NativeEffect
     ensures { result ≡ gives_parsed_long number }
 {
     match number {
@@ -68,7 +68,7 @@ pub fn gives_parsed_long(number: Option<i64>) -> Effect
 }
 
 /// What compareTo gives, where the argument is a box of the class.
-pub fn compared_if(other: u32, same: bool, comparison: i32) -> Effect
+pub fn compared_if(other: u32, same: bool, comparison: i32) -> NativeEffect
     ensures { result ≡ compared_if other same comparison }
 {
     if other == 0 {

@@ -2,7 +2,7 @@
 
 ghost use Rattle.std.specs.Prelude.{◌≡◌, IfOk, pos};
 ghost use Rattle.heap_objects.specs.declared.datum.Datum.TheVariants.{Int};
-ghost use Rattle.native_effects.specs.declared.effects.effect.Effect.TheVariants.{GivesBox};
+ghost use Rattle.native_effects.specs.declared.effects.effect.NativeEffect.TheVariants.{GivesBox};
 ghost use Rattle.native_effects.specs.Inputs.Numbers.{boolean_kind};
 ghost use Rattle.native_ops.specs.Classes.Characters.{is_letter, is_whitespace, char_value, same_boxes, character_effect};
 ghost use Rattle.native_ops.specs.Classes.Characters.{bit_of, hash_of_boolean, boolean_value, boolean_effect};
@@ -14,7 +14,7 @@ use heap_objects::{Datum, Heap};
 use int_ops::{neg_i32, neg_i64};
 use jf_bytes::NoMemory;
 use native_effects::{
-    BOOLEAN_KIND, CHARACTER_KIND, Effect, Kinds, boolean_in, char_in, char_of, gives_boolean,
+    BOOLEAN_KIND, CHARACTER_KIND, Kinds, NativeEffect, boolean_in, char_in, char_of, gives_boolean,
     gives_int, gives_long, int_field, int_in, is_digit, is_instance, is_true, long_in,
     reference_in, text_at, text_of_boolean, unit_alone,
 };
@@ -53,7 +53,7 @@ pub fn character_effect<K: Kinds>(
     kinds: &K,
     args: &[Datum],
     heap: &Heap,
-) -> Result<Effect, NoMemory>
+) -> Result<NativeEffect, NoMemory>
     ensures { IfOk result (λ e. e ≡ character_effect method (K.seen kinds.now) args.now heap.now) }
 {
     let this = reference_in(args, 0);
@@ -63,7 +63,7 @@ pub fn character_effect<K: Kinds>(
             let value = Datum::Int(i32::from(unit));
             box_of(alloc, CHARACTER_KIND, char_place(unit), value)
         }
-        CharacterMethod::TextOf => Ok(Effect::MakesText(unit_alone(alloc, unit)?)),
+        CharacterMethod::TextOf => Ok(NativeEffect::MakesText(unit_alone(alloc, unit)?)),
         CharacterMethod::IsDigit => Ok(gives_boolean(is_digit(unit))),
         CharacterMethod::IsLetter => Ok(gives_boolean(is_letter(unit))),
         CharacterMethod::IsWhitespace => Ok(gives_boolean(is_whitespace(unit))),
@@ -75,7 +75,7 @@ pub fn character_effect<K: Kinds>(
         CharacterMethod::HashCode => Ok(gives_int(i32::from(char_value(this, heap)))),
         CharacterMethod::ToText => {
             let value = char_value(this, heap);
-            Ok(Effect::MakesText(unit_alone(alloc, value)?))
+            Ok(NativeEffect::MakesText(unit_alone(alloc, value)?))
         }
     }
 }
@@ -100,11 +100,11 @@ fn boolean_value(object: u32, heap: &Heap) -> bool
 }
 
 /// The box that is made once for a boolean.
-fn box_of_boolean(b: bool) -> Effect
+fn box_of_boolean(b: bool) -> NativeEffect
     ensures { result ≡ GivesBox boolean_kind (bit_of b) (Int (pos (bit_of b))) }
 {
     let value = Datum::Int(if b { 1 } else { 0 });
-    Effect::GivesBox(BOOLEAN_KIND, bit_of(b), value)
+    NativeEffect::GivesBox(BOOLEAN_KIND, bit_of(b), value)
 }
 
 /// What a method of java/lang/Boolean does.
@@ -114,7 +114,7 @@ pub fn boolean_effect<K: Kinds>(
     kinds: &K,
     args: &[Datum],
     heap: &Heap,
-) -> Result<Effect, NoMemory>
+) -> Result<NativeEffect, NoMemory>
     ensures { IfOk result (λ e. e ≡ boolean_effect method (K.seen kinds.now) args.now heap.now) }
 {
     let this = reference_in(args, 0);
@@ -129,7 +129,7 @@ pub fn boolean_effect<K: Kinds>(
         BooleanMethod::HashCode => Ok(gives_int(hash_of_boolean(boolean_value(this, heap)))),
         BooleanMethod::ToText => {
             let value = boolean_value(this, heap);
-            Ok(Effect::MakesText(text_of_boolean(alloc, value)?))
+            Ok(NativeEffect::MakesText(text_of_boolean(alloc, value)?))
         }
     }
 }
@@ -147,7 +147,7 @@ fn absolute_long(n: i64) -> i64
 }
 
 /// What a method of java/lang/Math does.
-pub fn math_effect(method: MathMethod, args: &[Datum]) -> Effect
+pub fn math_effect(method: MathMethod, args: &[Datum]) -> NativeEffect
     ensures { result ≡ math_effect method args.now }
 {
     match method {

@@ -13,7 +13,7 @@ use base_classes::{
 use heap_objects::{Datum, Heap};
 use jf_bytes::{NoMemory, Seq};
 use native_effects::{
-    Answer, Effect, FIRST_REFERENCE_ARRAY_KIND, Kinds, counted_range, gives_int, int_in,
+    Answer, FIRST_REFERENCE_ARRAY_KIND, Kinds, NativeEffect, counted_range, gives_int, int_in,
     kind_or_none, number_as_int, reference_in, size_at, throws, values_between,
 };
 use std::alloc::Global;
@@ -91,7 +91,7 @@ fn store<K: Kinds>(
     place: usize,
     values: &[Datum],
     heap: &Heap,
-) -> Result<Effect, NoMemory>
+) -> Result<NativeEffect, NoMemory>
     ensures { IfOk result (λ e. e ≡ store (K.seen kinds.now) array place values.now heap.now) }
 {
     let fitting = storable(alloc, kinds, kind_or_none(array, heap), heap, values)?;
@@ -100,7 +100,7 @@ fn store<K: Kinds>(
     } else {
         Answer::Throws(ARRAY_STORE_EXCEPTION)
     };
-    Ok(Effect::Stores(array, place, fitting, answer))
+    Ok(NativeEffect::Stores(array, place, fitting, answer))
 }
 
 /// Copies a range of one array to that of another.
@@ -112,7 +112,7 @@ fn copy_ranges<K: Kinds>(
     source: Option<(usize, usize)>,
     target: Option<(usize, usize)>,
     heap: &Heap,
-) -> Result<Effect, NoMemory>
+) -> Result<NativeEffect, NoMemory>
     requires { IfSome source (λ r. (r.0 ≤ r.1) × (r.1 ≤ size_at from heap.now)) }
     ensures { IfOk result (λ e. e
         ≡ copy_ranges (K.seen kinds.now) from to source target heap.now) }
@@ -133,7 +133,7 @@ fn arraycopy<K: Kinds>(
     kinds: &K,
     args: &[Datum],
     heap: &Heap,
-) -> Result<Effect, NoMemory>
+) -> Result<NativeEffect, NoMemory>
     ensures { IfOk result (λ e. e ≡ system_effect Arraycopy (K.seen kinds.now) args.now heap.now) }
 {
     let (from, to) = (reference_in(args, 0), reference_in(args, 2));
@@ -156,11 +156,11 @@ pub fn system_effect<K: Kinds>(
     kinds: &K,
     args: &[Datum],
     heap: &Heap,
-) -> Result<Effect, NoMemory>
+) -> Result<NativeEffect, NoMemory>
     ensures { IfOk result (λ e. e ≡ system_effect method (K.seen kinds.now) args.now heap.now) }
 {
     match method {
-        SystemMethod::Exit => Ok(Effect::Answers(Answer::Exit(int_in(args, 0)))),
+        SystemMethod::Exit => Ok(NativeEffect::Answers(Answer::Exit(int_in(args, 0)))),
         SystemMethod::Arraycopy => arraycopy(alloc, kinds, args, heap),
         SystemMethod::IdentityHashCode => {
             Ok(gives_int(number_as_int(reference_in(args, 0) as usize)))

@@ -8,7 +8,7 @@ use base_classes::{CLASS_CAST_EXCEPTION, NULL_POINTER_EXCEPTION};
 use heap_objects::{Datum, Heap};
 use int_ops::sub_i32;
 use native_effects::{
-    ENUM_KIND, Effect, Kinds, gives_boolean, gives_int, gives_reference, int_field, int_in,
+    ENUM_KIND, Kinds, NativeEffect, gives_boolean, gives_int, gives_reference, int_field, int_in,
     is_instance, kind_or_none, number_as_int, reference_field, reference_in, throws,
 };
 
@@ -23,7 +23,7 @@ fn declaring_class<K: Kinds>(kinds: &K, kind: u32) -> u32
 }
 
 /// The difference of the ordinals, where one class declares both.
-fn compare_constants<K: Kinds>(kinds: &K, object: u32, other: u32, heap: &Heap) -> Effect
+fn compare_constants<K: Kinds>(kinds: &K, object: u32, other: u32, heap: &Heap) -> NativeEffect
     ensures { result ≡ compare_constants (K.seen kinds.now) object other heap.now }
 {
     let own = declaring_class(kinds, kind_or_none(object, heap));
@@ -34,7 +34,7 @@ fn compare_constants<K: Kinds>(kinds: &K, object: u32, other: u32, heap: &Heap) 
 }
 
 /// compareTo(Enum)I.
-fn compare_to_constant<K: Kinds>(kinds: &K, object: u32, other: u32, heap: &Heap) -> Effect
+fn compare_to_constant<K: Kinds>(kinds: &K, object: u32, other: u32, heap: &Heap) -> NativeEffect
     ensures { result ≡ compare_to_constant (K.seen kinds.now) object other heap.now }
 {
     if other == 0 {
@@ -44,7 +44,7 @@ fn compare_to_constant<K: Kinds>(kinds: &K, object: u32, other: u32, heap: &Heap
 }
 
 /// compareTo(O)I.
-fn compare_to_any<K: Kinds>(kinds: &K, object: u32, other: u32, heap: &Heap) -> Effect
+fn compare_to_any<K: Kinds>(kinds: &K, object: u32, other: u32, heap: &Heap) -> NativeEffect
     ensures { result ≡ compare_to_any (K.seen kinds.now) object other heap.now }
 {
     if other == 0 {
@@ -57,12 +57,17 @@ fn compare_to_any<K: Kinds>(kinds: &K, object: u32, other: u32, heap: &Heap) -> 
 }
 
 /// What a method does.
-pub fn enum_effect<K: Kinds>(method: EnumMethod, kinds: &K, args: &[Datum], heap: &Heap) -> Effect
+pub fn enum_effect<K: Kinds>(
+    method: EnumMethod,
+    kinds: &K,
+    args: &[Datum],
+    heap: &Heap,
+) -> NativeEffect
     ensures { result ≡ enum_effect method (K.seen kinds.now) args.now heap.now }
 {
     let this = reference_in(args, 0);
     match method {
-        EnumMethod::Init => Effect::SetsFields(
+        EnumMethod::Init => NativeEffect::SetsFields(
             this,
             Datum::Ref(reference_in(args, 1)),
             Datum::Int(int_in(args, 2)),

@@ -10,13 +10,13 @@ use heap_objects::{Datum, Heap};
 use int_ops::cmp_i64;
 use jf_bytes::NoMemory;
 use native_effects::{
-    Effect, INTEGER_KIND, Kinds, gives_boolean, gives_int, gives_long, int_field, int_in,
+    INTEGER_KIND, Kinds, NativeEffect, gives_boolean, gives_int, gives_long, int_field, int_in,
     is_instance, parsed_int, reference_in, text_at, text_of_int,
 };
 use std::alloc::Global;
 
 /// parseInt(S)I.
-fn parse_int(object: u32, heap: &Heap) -> Effect
+fn parse_int(object: u32, heap: &Heap) -> NativeEffect
     ensures { result ≡ parse_int object heap.now }
 {
     if object == 0 {
@@ -34,7 +34,7 @@ fn same_integers<K: Kinds>(kinds: &K, object: u32, other: u32, heap: &Heap) -> b
 }
 
 /// compareTo(O)I.
-fn compare_integers<K: Kinds>(kinds: &K, object: u32, other: u32, heap: &Heap) -> Effect
+fn compare_integers<K: Kinds>(kinds: &K, object: u32, other: u32, heap: &Heap) -> NativeEffect
     ensures { result ≡ compare_integers (K.seen kinds.now) object other heap.now }
 {
     let comparison = cmp_i64(
@@ -55,7 +55,7 @@ pub fn integer_effect<K: Kinds>(
     kinds: &K,
     args: &[Datum],
     heap: &Heap,
-) -> Result<Effect, NoMemory>
+) -> Result<NativeEffect, NoMemory>
     ensures { IfOk result (λ e. e ≡ integer_effect method (K.seen kinds.now) args.now heap.now) }
 {
     let this = reference_in(args, 0);
@@ -66,8 +66,8 @@ pub fn integer_effect<K: Kinds>(
             box_of(alloc, INTEGER_KIND, place, Datum::Int(number))
         }
         IntegerMethod::Parse => Ok(parse_int(this, heap)),
-        IntegerMethod::TextOf => Ok(Effect::MakesText(text_of_int(alloc, number)?)),
-        IntegerMethod::HexOf => Ok(Effect::MakesText(hex_of(alloc, number.cast_unsigned())?)),
+        IntegerMethod::TextOf => Ok(NativeEffect::MakesText(text_of_int(alloc, number)?)),
+        IntegerMethod::HexOf => Ok(NativeEffect::MakesText(hex_of(alloc, number.cast_unsigned())?)),
         IntegerMethod::IntValue => Ok(gives_int(int_field(this, 0, heap))),
         IntegerMethod::LongValue => Ok(gives_long(i64::from(int_field(this, 0, heap)))),
         IntegerMethod::Equals => Ok(gives_boolean(same_integers(
@@ -79,7 +79,7 @@ pub fn integer_effect<K: Kinds>(
         IntegerMethod::HashCode => Ok(gives_int(int_field(this, 0, heap))),
         IntegerMethod::ToText => {
             let value = int_field(this, 0, heap);
-            Ok(Effect::MakesText(text_of_int(alloc, value)?))
+            Ok(NativeEffect::MakesText(text_of_int(alloc, value)?))
         }
         IntegerMethod::CompareTo => {
             Ok(compare_integers(kinds, this, reference_in(args, 1), heap))

@@ -9,13 +9,13 @@ use heap_objects::{Datum, Heap};
 use int_ops::{cmp_i64, l2i};
 use jf_bytes::NoMemory;
 use native_effects::{
-    Effect, Kinds, LONG_KIND, gives_boolean, gives_int, gives_long, is_instance, long_field,
+    Kinds, LONG_KIND, NativeEffect, gives_boolean, gives_int, gives_long, is_instance, long_field,
     long_in, parsed_long, reference_in, text_at, text_of_long,
 };
 use std::alloc::Global;
 
 /// parseLong(S)J.
-fn parse_long(object: u32, heap: &Heap) -> Effect
+fn parse_long(object: u32, heap: &Heap) -> NativeEffect
     ensures { result ≡ parse_long object heap.now }
 {
     if object == 0 {
@@ -43,7 +43,7 @@ fn same_longs<K: Kinds>(kinds: &K, object: u32, other: u32, heap: &Heap) -> bool
 }
 
 /// compareTo(O)I.
-fn compare_longs<K: Kinds>(kinds: &K, object: u32, other: u32, heap: &Heap) -> Effect
+fn compare_longs<K: Kinds>(kinds: &K, object: u32, other: u32, heap: &Heap) -> NativeEffect
     ensures { result ≡ compare_longs (K.seen kinds.now) object other heap.now }
 {
     let comparison = cmp_i64(long_field(object, 0, heap), long_field(other, 0, heap));
@@ -61,7 +61,7 @@ pub fn long_effect<K: Kinds>(
     kinds: &K,
     args: &[Datum],
     heap: &Heap,
-) -> Result<Effect, NoMemory>
+) -> Result<NativeEffect, NoMemory>
     ensures { IfOk result (λ e. e ≡ long_effect method (K.seen kinds.now) args.now heap.now) }
 {
     let this = reference_in(args, 0);
@@ -69,7 +69,7 @@ pub fn long_effect<K: Kinds>(
     match method {
         LongMethod::ValueOf => box_of(alloc, LONG_KIND, small_place(number), Datum::Long(number)),
         LongMethod::Parse => Ok(parse_long(this, heap)),
-        LongMethod::TextOf => Ok(Effect::MakesText(text_of_long(alloc, number)?)),
+        LongMethod::TextOf => Ok(NativeEffect::MakesText(text_of_long(alloc, number)?)),
         LongMethod::IntValue => Ok(gives_int(l2i(long_field(this, 0, heap)))),
         LongMethod::LongValue => Ok(gives_long(long_field(this, 0, heap))),
         LongMethod::Equals => Ok(gives_boolean(same_longs(
@@ -81,7 +81,7 @@ pub fn long_effect<K: Kinds>(
         LongMethod::HashCode => Ok(gives_int(hash_of_long(long_field(this, 0, heap)))),
         LongMethod::ToText => {
             let value = long_field(this, 0, heap);
-            Ok(Effect::MakesText(text_of_long(alloc, value)?))
+            Ok(NativeEffect::MakesText(text_of_long(alloc, value)?))
         }
         LongMethod::CompareTo => Ok(compare_longs(kinds, this, reference_in(args, 1), heap)),
     }

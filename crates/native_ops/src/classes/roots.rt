@@ -11,8 +11,8 @@ use base_classes::{CLONE_NOT_SUPPORTED_EXCEPTION, FIRST_ARRAY};
 use heap_objects::{Datum, Heap};
 use jf_bytes::{NoMemory, Seq};
 use native_effects::{
-    CLONEABLE_KIND, Effect, Kinds, Made, gives_boolean, gives_int, gives_nothing, kind_or_none,
-    number_as_int, reference_in, throws, units_of, values_at,
+    CLONEABLE_KIND, Kinds, Made, NativeEffect, gives_boolean, gives_int, gives_nothing,
+    kind_or_none, number_as_int, reference_in, throws, units_of, values_at,
 };
 use std::alloc::Global;
 
@@ -147,16 +147,16 @@ fn clone<K: Kinds>(
     kind: u32,
     object: u32,
     heap: &Heap,
-) -> Result<Effect, NoMemory>
+) -> Result<NativeEffect, NoMemory>
     ensures { IfOk result (λ e. e ≡ clone (K.seen kinds.now) kind object heap.now) }
 {
     if kind >= FIRST_ARRAY {
-        return Ok(Effect::MakesArray(kind, values_at(alloc, object, heap)?));
+        return Ok(NativeEffect::MakesArray(kind, values_at(alloc, object, heap)?));
     }
     if !kinds.subtype(kind, CLONEABLE_KIND) {
         return Ok(throws(CLONE_NOT_SUPPORTED_EXCEPTION));
     }
-    Ok(Effect::MakesInstance(kind, values_at(alloc, object, heap)?))
+    Ok(NativeEffect::MakesInstance(kind, values_at(alloc, object, heap)?))
 }
 
 /// What a method of java/lang/Object does.
@@ -166,7 +166,7 @@ pub fn object_effect<K: Kinds>(
     kinds: &K,
     args: &[Datum],
     heap: &Heap,
-) -> Result<Effect, NoMemory>
+) -> Result<NativeEffect, NoMemory>
     ensures { IfOk result (λ e. e ≡ object_effect method (K.seen kinds.now) args.now heap.now) }
 {
     let this = reference_in(args, 0);
@@ -174,8 +174,8 @@ pub fn object_effect<K: Kinds>(
         ObjectMethod::Init => Ok(gives_nothing()),
         ObjectMethod::Equals => Ok(gives_boolean(this == reference_in(args, 1))),
         ObjectMethod::HashCode => Ok(gives_int(number_as_int(this as usize))),
-        ObjectMethod::ToText => Ok(Effect::MakesText(object_text(alloc, kinds, this, heap)?)),
-        ObjectMethod::GetClass => Ok(Effect::GivesClass(kind_or_none(this, heap))),
+        ObjectMethod::ToText => Ok(NativeEffect::MakesText(object_text(alloc, kinds, this, heap)?)),
+        ObjectMethod::GetClass => Ok(NativeEffect::GivesClass(kind_or_none(this, heap))),
         ObjectMethod::Clone => clone(alloc, kinds, kind_or_none(this, heap), this, heap),
     }
 }
@@ -200,11 +200,11 @@ pub fn class_effect<K: Kinds>(
     kinds: &K,
     args: &[Datum],
     made: &Made,
-) -> Result<Effect, NoMemory>
+) -> Result<NativeEffect, NoMemory>
     ensures { IfOk result (λ e. e ≡ class_effect method (K.seen kinds.now) args.now made.now) }
 {
     match method {
-        ClassMethod::GetName => Ok(Effect::MakesText(name_of_class(
+        ClassMethod::GetName => Ok(NativeEffect::MakesText(name_of_class(
             alloc,
             kinds,
             reference_in(args, 0),

@@ -8,18 +8,18 @@ use base_classes::NULL_POINTER_EXCEPTION;
 use heap_objects::{Datum, Heap};
 use jf_bytes::NoMemory;
 use native_effects::{
-    Effect, Printable, argument_shown, gives_nothing, is_null_array, throws, unit_alone,
+    NativeEffect, Printable, argument_shown, gives_nothing, is_null_array, throws, unit_alone,
 };
 use std::alloc::Global;
 
 const LINE_FEED: u16 = 10;
 
 /// What a method of the input does.
-pub fn input_effect(method: InputMethod) -> Effect
+pub fn input_effect(method: InputMethod) -> NativeEffect
     ensures { result ≡ input_effect method }
 {
     match method {
-        InputMethod::Read => Effect::Reads,
+        InputMethod::Read => NativeEffect::Reads,
         InputMethod::Close => gives_nothing(),
     }
 }
@@ -31,7 +31,7 @@ fn prints(
     behind: &[u16],
     args: &[Datum],
     heap: &Heap,
-) -> Result<Effect, NoMemory>
+) -> Result<NativeEffect, NoMemory>
     ensures { IfOk result (λ e. e ≡ prints what behind.now args.now heap.now) }
 {
     if is_null_array(what, 1, args) {
@@ -39,7 +39,7 @@ fn prints(
     }
     let mut units = argument_shown(alloc, what, 1, args, heap)?;
     units.extend_from_slice(behind)?;
-    Ok(Effect::Prints(units))
+    Ok(NativeEffect::Prints(units))
 }
 
 /// What a method of the output does.
@@ -48,13 +48,13 @@ pub fn print_effect(
     method: PrintMethod,
     args: &[Datum],
     heap: &Heap,
-) -> Result<Effect, NoMemory>
+) -> Result<NativeEffect, NoMemory>
     ensures { IfOk result (λ e. e ≡ print_effect method args.now heap.now) }
 {
     match method {
         PrintMethod::Print(what) => prints(alloc, what, &[], args, heap),
         PrintMethod::Println(what) => prints(alloc, what, &[LINE_FEED], args, heap),
-        PrintMethod::EndLine => Ok(Effect::Prints(unit_alone(alloc, LINE_FEED)?)),
+        PrintMethod::EndLine => Ok(NativeEffect::Prints(unit_alone(alloc, LINE_FEED)?)),
         PrintMethod::Flush => Ok(gives_nothing()),
     }
 }

@@ -14,7 +14,7 @@ use base_classes::{
 use heap_objects::{Datum, Heap};
 use jf_bytes::{NoMemory, Seq};
 use native_effects::{
-    CHARS_KIND, Effect, Printable, STRING_KIND, argument_shown, begins_with, chars_at,
+    CHARS_KIND, NativeEffect, Printable, STRING_KIND, argument_shown, begins_with, chars_at,
     chars_between, compared_texts, counted_range, gives_boolean, gives_int, gives_reference,
     has_kind, hash_of_text, int_in, is_null_array, number_as_int, place_in, place_of_character,
     range_from, range_in, reference_in, same_units, size_at, text_at, throws, units_joined,
@@ -22,25 +22,30 @@ use native_effects::{
 use std::alloc::Global;
 
 /// <init>(S)V.
-pub fn init_text(alloc: Global, object: u32, from: u32, heap: &Heap) -> Result<Effect, NoMemory>
+pub fn init_text(
+    alloc: Global,
+    object: u32,
+    from: u32,
+    heap: &Heap,
+) -> Result<NativeEffect, NoMemory>
     ensures { IfOk result (λ e. e ≡ init_text object from heap.now) }
 {
     if from == 0 {
         return Ok(throws(NULL_POINTER_EXCEPTION));
     }
     let units = Seq::from_slice(alloc, text_at(from, heap))?;
-    Ok(Effect::Replaces(object, units, None))
+    Ok(NativeEffect::Replaces(object, units, None))
 }
 
 /// <init>([C)V.
-fn init_chars(alloc: Global, object: u32, array: u32, heap: &Heap) -> Result<Effect, NoMemory>
+fn init_chars(alloc: Global, object: u32, array: u32, heap: &Heap) -> Result<NativeEffect, NoMemory>
     ensures { IfOk result (λ e. e ≡ init_chars object array heap.now) }
 {
     if array == 0 {
         return Ok(throws(NULL_POINTER_EXCEPTION));
     }
     let units = chars_at(alloc, array, heap)?;
-    Ok(Effect::Replaces(object, units, None))
+    Ok(NativeEffect::Replaces(object, units, None))
 }
 
 /// The part of an array of char.
@@ -50,7 +55,7 @@ fn init_range(
     array: u32,
     range: Option<(usize, usize)>,
     heap: &Heap,
-) -> Result<Effect, NoMemory>
+) -> Result<NativeEffect, NoMemory>
     requires { IfSome range (λ r. (r.0 ≤ r.1) × (r.1 ≤ size_at array heap.now)) }
     ensures { IfOk result (λ e. e ≡ init_range object (chars_at array heap.now) range) }
 {
@@ -58,7 +63,7 @@ fn init_range(
         return Ok(throws(STRING_INDEX_OUT_OF_BOUNDS_EXCEPTION));
     };
     let part = chars_between(alloc, array, from, to, heap)?;
-    Ok(Effect::Replaces(object, part, None))
+    Ok(NativeEffect::Replaces(object, part, None))
 }
 
 /// <init>([CII)V.
@@ -69,7 +74,7 @@ fn init_part(
     from: i32,
     count: i32,
     heap: &Heap,
-) -> Result<Effect, NoMemory>
+) -> Result<NativeEffect, NoMemory>
     ensures { IfOk result (λ e. e ≡ init_part object array from count heap.now) }
 {
     if array == 0 {
@@ -88,7 +93,7 @@ fn unit_at(units: &[u16], place: i32) -> Option<u16>
 }
 
 /// charAt(I)C.
-pub fn char_at(object: u32, place: i32, heap: &Heap) -> Effect
+pub fn char_at(object: u32, place: i32, heap: &Heap) -> NativeEffect
     ensures { result ≡ char_at object place heap.now }
 {
     match unit_at(text_at(object, heap), place) {
@@ -98,7 +103,7 @@ pub fn char_at(object: u32, place: i32, heap: &Heap) -> Effect
 }
 
 /// equals(O)Z.
-fn equals(object: u32, other: u32, heap: &Heap) -> Effect
+fn equals(object: u32, other: u32, heap: &Heap) -> NativeEffect
     ensures { result ≡ equals object other heap.now }
 {
     gives_boolean(
@@ -108,7 +113,7 @@ fn equals(object: u32, other: u32, heap: &Heap) -> Effect
 }
 
 /// compareTo(S)I.
-fn compare_to(object: u32, other: u32, heap: &Heap) -> Effect
+fn compare_to(object: u32, other: u32, heap: &Heap) -> NativeEffect
     ensures { result ≡ compare_to object other heap.now }
 {
     if other == 0 {
@@ -118,7 +123,7 @@ fn compare_to(object: u32, other: u32, heap: &Heap) -> Effect
 }
 
 /// compareTo(O)I.
-fn compare_to_object(object: u32, other: u32, heap: &Heap) -> Effect
+fn compare_to_object(object: u32, other: u32, heap: &Heap) -> NativeEffect
     ensures { result ≡ compare_to_object object other heap.now }
 {
     if other == 0 {
@@ -131,7 +136,7 @@ fn compare_to_object(object: u32, other: u32, heap: &Heap) -> Effect
 }
 
 /// indexOf(I)I.
-fn index_of(object: u32, character: i32, heap: &Heap) -> Effect
+fn index_of(object: u32, character: i32, heap: &Heap) -> NativeEffect
     ensures { result ≡ index_of object character heap.now }
 {
     match place_of_character(character, text_at(object, heap)) {
@@ -141,7 +146,7 @@ fn index_of(object: u32, character: i32, heap: &Heap) -> Effect
 }
 
 /// startsWith(S)Z.
-fn starts_with(object: u32, front: u32, heap: &Heap) -> Effect
+fn starts_with(object: u32, front: u32, heap: &Heap) -> NativeEffect
     ensures { result ≡ starts_with object front heap.now }
 {
     if front == 0 {
@@ -151,7 +156,7 @@ fn starts_with(object: u32, front: u32, heap: &Heap) -> Effect
 }
 
 /// concat(S)S.
-fn concat(alloc: Global, object: u32, other: u32, heap: &Heap) -> Result<Effect, NoMemory>
+fn concat(alloc: Global, object: u32, other: u32, heap: &Heap) -> Result<NativeEffect, NoMemory>
     ensures { IfOk result (λ e. e ≡ concat object other heap.now) }
 {
     if other == 0 {
@@ -161,7 +166,7 @@ fn concat(alloc: Global, object: u32, other: u32, heap: &Heap) -> Result<Effect,
     if added.is_empty() {
         return Ok(gives_reference(object));
     }
-    Ok(Effect::MakesText(units_joined(alloc, text_at(object, heap), added)?))
+    Ok(NativeEffect::MakesText(units_joined(alloc, text_at(object, heap), added)?))
 }
 
 /// A part of a text, which is the text itself where it is the whole.
@@ -170,7 +175,7 @@ fn part_of(
     object: u32,
     units: &[u16],
     range: (usize, usize),
-) -> Result<Effect, NoMemory>
+) -> Result<NativeEffect, NoMemory>
     requires { (range.0 ≤ range.1) × (range.1 ≤ length units.now) }
     ensures { IfOk result (λ e. e ≡ part_of object units.now range) }
 {
@@ -178,7 +183,7 @@ fn part_of(
     if from == 0 && to == units.len() {
         return Ok(gives_reference(object));
     }
-    Ok(Effect::MakesText(Seq::from_slice(alloc, &units[from..to])?))
+    Ok(NativeEffect::MakesText(Seq::from_slice(alloc, &units[from..to])?))
 }
 
 /// substring(I)S and substring(II)S.
@@ -187,7 +192,7 @@ fn substring(
     object: u32,
     units: &[u16],
     range: Option<(usize, usize)>,
-) -> Result<Effect, NoMemory>
+) -> Result<NativeEffect, NoMemory>
     requires { IfSome range (λ r. (r.0 ≤ r.1) × (r.1 ≤ length units.now)) }
     ensures { IfOk result (λ e. e ≡ substring object units.now range) }
 {
@@ -209,25 +214,35 @@ fn values_of(alloc: Global, units: &[u16]) -> Result<Seq<Datum>, NoMemory>
 }
 
 /// toCharArray()[C.
-fn to_char_array(alloc: Global, object: u32, heap: &Heap) -> Result<Effect, NoMemory>
+fn to_char_array(alloc: Global, object: u32, heap: &Heap) -> Result<NativeEffect, NoMemory>
     ensures { IfOk result (λ e. e ≡ to_char_array object heap.now) }
 {
     let values = values_of(alloc, text_at(object, heap))?;
-    Ok(Effect::MakesArray(CHARS_KIND, values))
+    Ok(NativeEffect::MakesArray(CHARS_KIND, values))
 }
 
 /// valueOf.
-fn value_of(alloc: Global, what: Printable, args: &[Datum], heap: &Heap) -> Result<Effect, NoMemory>
+fn value_of(
+    alloc: Global,
+    what: Printable,
+    args: &[Datum],
+    heap: &Heap,
+) -> Result<NativeEffect, NoMemory>
     ensures { IfOk result (λ e. e ≡ value_of what args.now heap.now) }
 {
     if is_null_array(what, 0, args) {
         return Ok(throws(NULL_POINTER_EXCEPTION));
     }
-    Ok(Effect::MakesText(argument_shown(alloc, what, 0, args, heap)?))
+    Ok(NativeEffect::MakesText(argument_shown(alloc, what, 0, args, heap)?))
 }
 
 /// substring(I)S.
-fn substring_from(alloc: Global, object: u32, from: i32, heap: &Heap) -> Result<Effect, NoMemory>
+fn substring_from(
+    alloc: Global,
+    object: u32,
+    from: i32,
+    heap: &Heap,
+) -> Result<NativeEffect, NoMemory>
     ensures { IfOk result (λ e. e ≡ substring_from object from heap.now) }
 {
     let units = text_at(object, heap);
@@ -241,7 +256,7 @@ fn substring_to(
     from: i32,
     to: i32,
     heap: &Heap,
-) -> Result<Effect, NoMemory>
+) -> Result<NativeEffect, NoMemory>
     ensures { IfOk result (λ e. e ≡ substring_to object from to heap.now) }
 {
     let units = text_at(object, heap);
@@ -261,12 +276,12 @@ pub fn string_effect(
     method: StringMethod,
     args: &[Datum],
     heap: &Heap,
-) -> Result<Effect, NoMemory>
+) -> Result<NativeEffect, NoMemory>
     ensures { IfOk result (λ e. e ≡ string_effect method args.now heap.now) }
 {
     let this = reference_in(args, 0);
     match method {
-        StringMethod::Init => Ok(Effect::Replaces(this, Seq::new(alloc), None)),
+        StringMethod::Init => Ok(NativeEffect::Replaces(this, Seq::new(alloc), None)),
         StringMethod::InitText => init_text(alloc, this, reference_in(args, 1), heap),
         StringMethod::InitChars => init_chars(alloc, this, reference_in(args, 1), heap),
         StringMethod::InitPart => {
@@ -288,7 +303,7 @@ pub fn string_effect(
         }
         StringMethod::IndexOf => Ok(index_of(this, int_in(args, 1), heap)),
         StringMethod::StartsWith => Ok(starts_with(this, reference_in(args, 1), heap)),
-        StringMethod::Intern => Ok(Effect::Interns(own_units(alloc, this, heap)?)),
+        StringMethod::Intern => Ok(NativeEffect::Interns(own_units(alloc, this, heap)?)),
         StringMethod::ToCharArray => to_char_array(alloc, this, heap),
         StringMethod::ValueOf(what) => value_of(alloc, what, args, heap),
     }

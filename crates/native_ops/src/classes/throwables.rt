@@ -6,13 +6,13 @@ ghost use Rattle.native_ops.specs.Classes.Throwables.{sets_both, message_of_deta
 use crate::methods::method::ThrowableMethod;
 use heap_objects::{Datum, Heap};
 use native_effects::{
-    Effect, STRING_KIND, gives_reference, has_kind, reference_field, reference_in,
+    NativeEffect, STRING_KIND, gives_reference, has_kind, reference_field, reference_in,
 };
 
-fn sets_both(object: u32, message: u32, cause: u32) -> Effect
+fn sets_both(object: u32, message: u32, cause: u32) -> NativeEffect
     ensures { result ≡ sets_both object message cause }
 {
-    Effect::SetsFields(object, Datum::Ref(message), Datum::Ref(cause))
+    NativeEffect::SetsFields(object, Datum::Ref(message), Datum::Ref(cause))
 }
 
 /// The message of an AssertionError with this detail.
@@ -27,7 +27,7 @@ fn message_of_detail(detail: u32, heap: &Heap) -> u32
 }
 
 /// What a method does.
-pub fn throwable_effect(method: ThrowableMethod, args: &[Datum], heap: &Heap) -> Effect
+pub fn throwable_effect(method: ThrowableMethod, args: &[Datum], heap: &Heap) -> NativeEffect
     ensures { result ≡ throwable_effect method args.now heap.now }
 {
     let this = reference_in(args, 0);

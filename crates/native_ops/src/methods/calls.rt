@@ -25,7 +25,7 @@ use crate::methods::method::Method;
 use crate::methods::rows::{Row, row_of};
 use heap_objects::{Datum, Heap};
 use jf_bytes::{NoMemory, Seq};
-use native_effects::{Answer, Effect, Kinds, Made, Native, carry_out};
+use native_effects::{Answer, Kinds, Made, Native, NativeEffect, carry_out};
 use std::alloc::Global;
 
 /// What a method does by arguments that fit.
@@ -36,7 +36,7 @@ fn method_effect<K: Kinds>(
     args: &[Datum],
     heap: &Heap,
     made: &Made,
-) -> Result<Effect, NoMemory>
+) -> Result<NativeEffect, NoMemory>
     ensures { IfOk result (λ e. e
         ≡ method_effect method (K.seen kinds.now) args.now heap.now made.now) }
 {
@@ -66,12 +66,12 @@ fn row_effect<K: Kinds>(
     args: &[Datum],
     heap: &Heap,
     made: &Made,
-) -> Result<Effect, NoMemory>
+) -> Result<NativeEffect, NoMemory>
     ensures { IfOk result (λ e. e
         ≡ row_effect row (K.seen kinds.now) args.now heap.now made.now) }
 {
     if !fit(row.receiver, row.parameters, kinds, args, heap) {
-        return Ok(Effect::Answers(Answer::Bad));
+        return Ok(NativeEffect::Answers(Answer::Bad));
     }
     method_effect(alloc, row.method, kinds, args, heap, made)
 }
@@ -84,7 +84,7 @@ fn effect_of<K: Kinds>(
     kinds: &K,
     heap: &Heap,
     made: &Made,
-) -> Result<Effect, NoMemory>
+) -> Result<NativeEffect, NoMemory>
     requires { native < NATIVE_METHODS }
     ensures { (input : List ℕ) → (read : ℕ) → IfOk result (λ e. e
         ≡ effect_of native (K.seen kinds.now) args.now (world heap.now made.now input read)) }

@@ -26,7 +26,7 @@ use Rattle.class_shape.specs.Swaps.{IsSomeImage}
 use Rattle.class_shape.proofs.ImageShapes.{image-shape}
 use Rattle.class_shape.proofs.SwapLaws.{no-swap_fault}
 use Rattle.hotswap.specs.Redefining.{IsRefused, SpellsImage}
-use Rattle.profile_session.specs.declared.swapping.Made.{Made}
+use Rattle.profile_session.specs.declared.swapping.Redefinition.{Redefinition}
 use Rattle.profile_session.specs.Images.{AreImageable, class_in, image_bytes-is, image_for, marks_for}
 use Rattle.profile_session.specs.Swapping.{IsImaged, IsMade, mark_at_position}
 use Rattle.profile_session.proofs.Swaps.MethodPlaces.{number-coded}
@@ -95,7 +95,7 @@ imaged p class original first marks image is there counted coded first_is image_
 
 -- ---- its bytes
 
-pub redefined : (p : Program) (r : Revealed) (class : ℕ) (m : Made) → IsMade p r class m → SpellsImage p class m.bytes.items m.marks.items m.homes
+pub redefined : (p : Program) (r : Revealed) (class : ℕ) (m : Redefinition) → IsMade p r class m → SpellsImage p class m.bytes.items m.marks.items m.homes
 redefined p r class m is = λ original image there swap.
     let i = is.imaged in
     let bytes : m.bytes.items ≡ class_bytes is.image.class =
@@ -107,7 +107,7 @@ redefined p r class m is = λ original image there swap.
     (subst (λ homes. IsImageOf p class (marks_for p r class) is.image.class homes) (sym is.homes) i.made))
 
 -- they redefine the class
-pub taken-as : (p : Program) (r : Revealed) (class : ℕ) (m : Made) → AreImageable p → IsMade p r class m → (e : SwapError) → IsRefused p class m.bytes.items e → ⊥
+pub taken-as : (p : Program) (r : Revealed) (class : ℕ) (m : Redefinition) → AreImageable p → IsMade p r class m → (e : SwapError) → IsRefused p class m.bytes.items e → ⊥
 taken-as p r class m imageable is e refused =
     let i = is.imaged in
     let original = refused.original in
@@ -120,7 +120,7 @@ taken-as p r class m imageable is e refused =
     let some : IsSomeImage original is.image.class = record { first = first_number p class; marks = marks_for p r class; homes = is.image.homes; made = imaged } in
     no-swap_fault original m.bytes.items is.image.class e (record { spelled = spelled; shape = image-shape original is.image.class formed some }) refused.fault
 
-pub made-by : (p : Program) (r : Revealed) (class count : ℕ) (m : Made) (image : Image) → count ≡ length (class_in p class).methods
+pub made-by : (p : Program) (r : Revealed) (class count : ℕ) (m : Redefinition) (image : Image) → count ≡ length (class_in p class).methods
     → m.marks.items ≡ map (mark_at_position p r class) (range_with_len 0 count) → IsImaged p class m.marks.items image → m.homes ≡ image.homes → Spells m.bytes.items image.class
     → IsMade p r class m
 made-by p r class count m image counted marks i homes spelled =

@@ -127,7 +127,7 @@ fn has_room_for(heap: &Heap, lengths: &[u32]) -> bool
 
 /// The number of an array that was made, and that of the object that is made next.
 #[derive(Clone, Copy)]
-pub struct Made {
+pub struct MadeArray {
     pub array: u32,
     pub next: u32,
 }
@@ -135,7 +135,7 @@ pub struct Made {
 /// An array of this kind, for which there is room. The classes of all objects stay loaded, also
 /// after want of memory.
 #[tactic(auto, using(member_selection::proofs::ObjectLemmas::objects_with))]
-fn make_one(heap: &mut Heap, kind: u32, count: u32) -> Result<Made, NoMemory>
+fn make_one(heap: &mut Heap, kind: u32, count: u32) -> Result<MadeArray, NoMemory>
     requires room { heap.old.used + (1 + count) ≤ heap.old.limit }
     ensures array { IfOk result (λ m. m.array ≡ next_number heap.old) }
     ensures next { IfOk result (λ m. m.next ≡ next_number heap.new) }
@@ -150,14 +150,14 @@ fn make_one(heap: &mut Heap, kind: u32, count: u32) -> Result<Made, NoMemory>
         Err(HeapError::NoMemory) => return Err(NoMemory),
     };
     match array.checked_add(1) {
-        Some(next) => Ok(Made { array, next }),
+        Some(next) => Ok(MadeArray { array, next }),
         None => Err(NoMemory),
     }
 }
 
 /// An array of this kind, and then its parts, each with all below it: depth first. There is room
 /// for them all, and at least one length.
-fn make_all(heap: &mut Heap, kind: u32, lengths: &[u32]) -> Result<Made, NoMemory>
+fn make_all(heap: &mut Heap, kind: u32, lengths: &[u32]) -> Result<MadeArray, NoMemory>
     requires least { 1 ≤ length lengths.now }
     requires room { heap.old.used + slots_of_arrays lengths.now ≤ heap.old.limit }
     ensures array { IfOk result (λ m. m.array ≡ next_number heap.old) }
@@ -180,7 +180,7 @@ fn make_all(heap: &mut Heap, kind: u32, lengths: &[u32]) -> Result<Made, NoMemor
         let part = make_all(heap, kind.saturating_sub(FIRST_ARRAY), rest)?;
         next = part.next;
     }
-    Ok(Made {
+    Ok(MadeArray {
         array: made.array,
         next,
     })

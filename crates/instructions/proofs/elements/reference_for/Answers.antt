@@ -1,7 +1,7 @@
 use Rattle.std.proofs.Common.{ℕ, refl, to_z-of_z}
 use Rattle.const_pool.specs.declared.descriptor.Kind.TheVariants as kind
 use Rattle.heap_objects.specs.declared.datum.Datum.TheVariants as datum
-use Rattle.heap_objects.specs.declared.element.Element.TheVariants as element
+use Rattle.heap_objects.specs.declared.element.ElementType.TheVariants as element
 use Rattle.instructions.proofs.Attempts.QuickElements.{quick-index}
 use Rattle.instructions.proofs.elements.reference_for.Goals as goal
 

@@ -1,6 +1,6 @@
 use Rattle.std.proofs.Common.{◌≡◌, ◌+◌, ◌<◌, ◌≤◌, Option, Some, sym, subst, arith}
 use Rattle.std.specs.Option.{IfSome}
-use Rattle.jvm_machine.specs.declared.advancing.Passage.{Passage}
+use Rattle.jvm_machine.specs.declared.advancing.Advance.{Advance}
 use Rattle.jvm_machine.specs.Several.{EndsUpTo, ReachesIf}
 use Rattle.jvm_machine.specs.Turns.{Turns}
 use Rattle.jvm_machine.specs.View.{View}
@@ -9,8 +9,8 @@ use Rattle.jvm_machine.proofs.Steps.Turned.{rests-then, turned}
 use Rattle.jvm_machine.proofs.machine.Vm.go_behind.Goals as goal
 
 -- what is said of the passage
-of-passage : (o : Option Passage) (p : Passage) (old new : View) → o ≡ Some p → IfSome o (λ p. EndsUpTo old p.made p.due new) → EndsUpTo old p.made p.due new
-of-passage o p old new is said = subst (λ o. IfSome o (λ (p : Passage). EndsUpTo old p.made p.due new)) is said
+of-passage : (o : Option Advance) (p : Advance) (old new : View) → o ≡ Some p → IfSome o (λ p. EndsUpTo old p.made p.due new) → EndsUpTo old p.made p.due new
+of-passage o p old new is said = subst (λ o. IfSome o (λ (p : Advance). EndsUpTo old p.made p.due new)) is said
 
 pub turn-requires-clause-whole : goal.turn-requires-clause-whole
 turn-requires-clause-whole c =
@@ -43,7 +43,7 @@ step_fully-requires c =
     let same = subst (λ o. ReachesIf e.behind.between o c.pass_behind.new.self) c.in-None.is e.behind.reaches in
     let first = settles-clock c.args.self.now e.first e.ends in
     let up = passes-clock e.first e.behind.between c.in-Some.passed.made e.behind.passes in
-    let within = subst (λ o. IfSome o (λ (p : Passage). p.made + 2 ≤ c.args.most)) c.in-Some.is c.pass_behind.ensures.within in
+    let within = subst (λ o. IfSome o (λ (p : Advance). p.made + 2 ≤ c.args.most)) c.in-Some.is c.pass_behind.ensures.within in
     let below = c.requires.below in
     subst (λ (v : View). v.clock < 9223372036854775808) (sym same) (omega (arith, first, up, within, below))
 
