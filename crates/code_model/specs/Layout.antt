@@ -1,6 +1,6 @@
 -- Code laid out anew: where each instruction comes to stand, and its bytes there (JVM Specification 4.7.3, 6.5). A
 -- group is an original instruction with the bytes that go in front of it.
-use Rattle.std.specs.Prelude.{ℕ, ◌+◌, ◌*◌, min, Bool, true, List, [], ◌∷◌, ◌++◌, length, map, replicate, zip, Option, Some, None, ℤ, pos, ◌+ℤ◌, ◌-ℤ◌, int_le, unwrap_or, ◌==◌, ◌&&◌, ◌||◌, if◌then◌else◌}
+use Rattle.std.specs.Prelude.{ℕ, ◌+◌, ◌-◌, ◌*◌, min, Bool, true, List, [], ◌∷◌, ◌++◌, length, take, map, replicate, zip, Option, Some, None, ℤ, pos, ◌+ℤ◌, ◌-ℤ◌, int_le, unwrap_or, ◌==◌, ◌&&◌, ◌||◌, if◌then◌else◌}
 use Rattle.std.specs.Int.{Width, w8, w16, w32, byte_len, cast_unsigned, to_be_bytes}
 use Rattle.std.specs.List.{flat_map}
 use Rattle.op_table.specs.declared.Form.{Form}
@@ -187,6 +187,14 @@ place_in homes at = found_beside homes.from homes.place at
 
 abbrev pub origin_in : Homes → ℕ → Option ℕ
 origin_in homes place = found_beside homes.place homes.from place
+
+-- the original starts, without the code's end behind them
+abbrev pub starts_in : Homes → List ℕ
+starts_in homes = take (length homes.from - 1) homes.from
+
+-- the original offset of the instruction at a place; where the code ends none of the original instructions stands
+abbrev pub instruction_origin : Homes → ℕ → Option ℕ
+instruction_origin homes place = found_beside homes.place (starts_in homes) place
 
 -- where a target leads: each is the start of an instruction
 abbrev pub home_of : Homes → ℕ → ℕ

@@ -16,5 +16,6 @@ mod switches;
 pub use decoding::{decode, instr_at};
 pub use encoding::encode;
 pub use error::CodeError;
+pub use homes::homes_unmoved;
 pub use instr::{Arg, Code, Instr};
 pub use laying::{Group, Homes, Laid, LayError, lay_out};
