@@ -26,7 +26,7 @@ use Rattle.jvm_model.specs.Basis.Descriptors.{same_text}
 use Rattle.jvm_model.specs.Basis.Methods.{code_of}
 use Rattle.jvm_model.proofs.Images.ImagePools.{named_text-more}
 use Rattle.stackmap_shift.specs.declared.error.FrameError.{FrameError}
-use Rattle.stackmap_shift.specs.declared.frames.StackMapFrame.{StackMapFrame}
+use Rattle.stackmap_shift.specs.declared.frames.Frame.{Frame}
 use Rattle.stackmap_shift.specs.DebugTables.{lines_of, variables_of}
 use Rattle.stackmap_shift.specs.Frames.{frames_of}
 use Rattle.inject_events.specs.declared.settings.Setting.{Setting}
@@ -61,7 +61,7 @@ start-contained (i ∷ rest) at is = by_here (i.at == at) refl is (λ later. sta
     by_here true same is later = subst (Contains (starts_of (i ∷ rest))) (eqb-true i.at at same) (All-contains_itself (starts_of (i ∷ rest)) 0 i.at (omega arith))
     by_here false same is later = Contains-append_right (i.at ∷ []) (starts_of rest) at (later is)
 
-frames-stand : (instrs : List Instr) (frames : List StackMapFrame) → list_all (fits_frame instrs) frames ≡ true → AllByRecursion (λ (f : StackMapFrame). Contains (starts_of instrs) f.at) frames
+frames-stand : (instrs : List Instr) (frames : List Frame) → list_all (fits_frame instrs) frames ≡ true → AllByRecursion (λ (f : Frame). Contains (starts_of instrs) f.at) frames
 frames-stand instrs [] fit = tt
 frames-stand instrs (f ∷ rest) fit =
     let parts = and_parts (fits_frame instrs f) (list_all (fits_frame instrs) rest) fit in
@@ -70,13 +70,13 @@ frames-stand instrs (f ∷ rest) fit =
 -- ---- a table
 
 module _ (instrs : List Instr) (bytes : List ℕ) (formed : AllByRecursion IsByte bytes) where
-  frames-sound : (read : Result (List StackMapFrame) FrameError) → frames_of bytes ≡ read → fits_frames instrs read ≡ true → HasSoundFrames (starts_of instrs) bytes
+  frames-sound : (read : Result (List Frame) FrameError) → frames_of bytes ≡ read → fits_frames instrs read ≡ true → HasSoundFrames (starts_of instrs) bytes
   frames-sound (Err fault) is fit = absurd cc
   frames-sound (Ok frames) is fit = record {
     frames = frames;
     read = is;
     writable = frames_of-writable bytes frames formed is;
-    stand = All-from_recursion (λ (f : StackMapFrame). Contains (starts_of instrs) f.at) frames (frames-stand instrs frames fit);
+    stand = All-from_recursion (λ (f : Frame). Contains (starts_of instrs) f.at) frames (frames-stand instrs frames fit);
   }
 
   frames-by : (framed is_frames : Bool) → cond is_frames (fits_frames instrs (frames_of bytes)) true ≡ true

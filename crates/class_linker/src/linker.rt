@@ -148,7 +148,7 @@ impl Linker {
     }
 
     /// Whether what has one kind also has another (4.10.1). What the first kind is of has to be loaded.
-    pub fn is_subkind(&self, lower: u32, upper: u32) -> bool
+    pub fn subtype(&self, lower: u32, upper: u32) -> bool
         requires { IsKnown self.now lower }
         ensures { result ≡ is_subkind self.now.program (parts_of lower) (parts_of upper) }
     {

@@ -8,7 +8,7 @@ use Rattle.const_pool.specs.declared.pool.Const.{Const}
 use Rattle.const_pool.specs.References.{same_text_at}
 use Rattle.code_model.specs.declared.instr.Instr.{Instr}
 use Rattle.stackmap_shift.specs.declared.error.FrameError.{FrameError}
-use Rattle.stackmap_shift.specs.declared.frames.StackMapFrame.{StackMapFrame}
+use Rattle.stackmap_shift.specs.declared.frames.Frame.{Frame}
 use Rattle.stackmap_shift.specs.declared.frames.FrameKind.{FrameKind}
 use Rattle.stackmap_shift.specs.declared.frames.FrameKind.TheVariants.{Same, OneItem, Chop, Append, Full}
 use Rattle.stackmap_shift.specs.declared.frames.VType.{VType}
@@ -34,10 +34,10 @@ fits_frame_kind instrs (Chop count) = true
 fits_frame_kind instrs (Append locals) = fits_vtypes instrs locals
 fits_frame_kind instrs (Full locals operands) = fits_vtypes instrs locals && fits_vtypes instrs operands
 
-abbrev pub fits_frame : List Instr → StackMapFrame → Bool
+abbrev pub fits_frame : List Instr → Frame → Bool
 fits_frame instrs f = is_start instrs f.at && fits_frame_kind instrs f.kind
 
-abbrev pub fits_frames : List Instr → Result (List StackMapFrame) FrameError → Bool
+abbrev pub fits_frames : List Instr → Result (List Frame) FrameError → Bool
 fits_frames instrs (Ok frames) = list_all (fits_frame instrs) frames
 fits_frames instrs (Err fault) = false
 

@@ -9,7 +9,7 @@ use Rattle.const_pool.specs.declared.class.Raw.{Raw}
 use Rattle.const_pool.specs.declared.pool.Const.{Const}
 use Rattle.jvm_model.specs.Basis.Methods.{code_of}
 use Rattle.stackmap_shift.specs.declared.error.FrameError.{FrameError}
-use Rattle.stackmap_shift.specs.declared.frames.StackMapFrame.{StackMapFrame}
+use Rattle.stackmap_shift.specs.declared.frames.Frame.{Frame}
 use Rattle.stackmap_shift.specs.declared.frames.FrameKind.{FrameKind}
 use Rattle.stackmap_shift.specs.declared.frames.FrameKind.TheVariants.{Same, OneItem, Chop, Append, Full}
 use Rattle.stackmap_shift.specs.declared.frames.VType.{VType}
@@ -40,10 +40,10 @@ is_floating_kind (Full locals operands) = are_floating locals || are_floating op
 
 -- ---- the offset of the first one of a table, and of all tables of a code
 
-abbrev pub floating_frame : StackMapFrame → Option ℕ
+abbrev pub floating_frame : Frame → Option ℕ
 floating_frame f = fault_if (is_floating_kind f.kind) f.at
 
-abbrev pub first_floating_frame : Result (List StackMapFrame) FrameError → Option ℕ
+abbrev pub first_floating_frame : Result (List Frame) FrameError → Option ℕ
 first_floating_frame (Ok frames) = first_in floating_frame frames
 first_floating_frame (Err fault) = None
 
@@ -56,7 +56,7 @@ floating_tables pool code = first_in (floating_raw pool) code.attributes
 -- ---- a class
 
 abbrev pub floating_frames_of : ℕ → List Const → ℕ → Member → Option AdmitError
-floating_frames_of k pool at m = option_map (λ offset. FloatingPoint k (place.StackMapFrame at offset)) (option_and_then (floating_tables pool) (code_of m))
+floating_frames_of k pool at m = option_map (λ offset. FloatingPoint k (place.Frame at offset)) (option_and_then (floating_tables pool) (code_of m))
 
 abbrev pub floating_frames : ℕ → ClassFile → Option AdmitError
 floating_frames k c = if c.major == 50 then first_from (floating_frames_of k c.pool) 0 c.methods else None

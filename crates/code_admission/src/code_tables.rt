@@ -11,7 +11,7 @@ use crate::starts::Body;
 use const_pool::{Pool, Raw};
 use jf_bytes::NoMemory;
 use stackmap_shift::{
-    FrameError, FrameKind, StackMapFrame, VType, is_line_table, is_variable_table, read_frames,
+    Frame, FrameError, FrameKind, VType, is_line_table, is_variable_table, read_frames,
 };
 use std::alloc::Global;
 
@@ -48,14 +48,14 @@ fn fits_frame_kind(body: &Body, kind: &FrameKind) -> bool
 }
 
 /// Whether a frame and its types stand at starts of instructions.
-fn fits_frame(body: &Body, frame: &StackMapFrame) -> bool
+fn fits_frame(body: &Body, frame: &Frame) -> bool
     ensures { result ≡ fits_frame body.now frame.now }
 {
     body.is_start(frame.at) && fits_frame_kind(body, &frame.kind)
 }
 
 /// Whether all frames do.
-fn fit_frames(body: &Body, frames: &[StackMapFrame]) -> bool
+fn fit_frames(body: &Body, frames: &[Frame]) -> bool
     ensures { result ≡ list_all (fits_frame body.now) frames.now }
 {
     frames.iter().all(|frame| fits_frame(body, frame))

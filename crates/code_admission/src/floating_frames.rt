@@ -16,7 +16,7 @@ use crate::error::{AdmitError, FloatingPointUse};
 use const_pool::{ClassFile, Member, Pool, Raw};
 use jf_bytes::NoMemory;
 use jvm_model::code_of;
-use stackmap_shift::{FrameError, FrameKind, StackMapFrame, VType, read_frames};
+use stackmap_shift::{Frame, FrameError, FrameKind, VType, read_frames};
 use std::alloc::Global;
 
 /// Whether a type is that of a float or a double.
@@ -49,7 +49,7 @@ fn is_floating_kind(kind: &FrameKind) -> bool
 }
 
 /// The offset of the first such frame.
-fn first_floating(frames: &[StackMapFrame]) -> Option<u16>
+fn first_floating(frames: &[Frame]) -> Option<u16>
     ensures { result ≡ first_in floating_frame frames.now }
 {
     for frame in frames {
@@ -118,7 +118,7 @@ fn frame_fault(
 {
     for (at, method) in methods.iter().enumerate() {
         if let Some(offset) = floating_tables(alloc, pool, method)? {
-            let place = FloatingPointUse::StackMapFrame(at as u16, offset);
+            let place = FloatingPointUse::Frame(at as u16, offset);
             return Ok(Some(AdmitError::FloatingPoint(number, place)));
         }
     }

@@ -37,7 +37,7 @@ use Rattle.jvm_model.specs.Rewriting.Versions.{probe_bytes, group_of, moved_hand
 use Rattle.jvm_model.proofs.Images.ImagePools.{named_text-more}
 use Rattle.jvm_model.proofs.Running.FormedCodes.{code-among}
 use Rattle.stackmap_shift.specs.declared.error.FrameError.{FrameError}
-use Rattle.stackmap_shift.specs.declared.frames.StackMapFrame.{StackMapFrame}
+use Rattle.stackmap_shift.specs.declared.frames.Frame.{Frame}
 use Rattle.stackmap_shift.specs.Frames.{frames_of}
 use Rattle.stackmap_shift.specs.Spelling.{table_bytes}
 use Rattle.inject_events.specs.declared.error.Cause.TheVariants as cause
@@ -143,11 +143,11 @@ record IsTable (pool : List Const) (raw : Raw) : Type 0 where
   named : Names is_utf8 pool raw.name
   bytes : AreBytes raw.bytes
 
-written : (b : Bool) (bytes : List ℕ) (frames : List StackMapFrame) → AreBytes bytes → AreBytes (cond b (table_bytes frames) bytes)
+written : (b : Bool) (bytes : List ℕ) (frames : List Frame) → AreBytes bytes → AreBytes (cond b (table_bytes frames) bytes)
 written true bytes frames old = table frames
 written false bytes frames old = old
 
-framed : (s : Setting) (homes : Homes) (end : ℕ) (bytes : List ℕ) (found : Result (List StackMapFrame) FrameError) → AreBytes bytes → AreBytes (framed_or_kept s homes end bytes found)
+framed : (s : Setting) (homes : Homes) (end : ℕ) (bytes : List ℕ) (found : Result (List Frame) FrameError) → AreBytes bytes → AreBytes (framed_or_kept s homes end bytes found)
 framed s homes end bytes (Ok frames) old = written (is_writable (version_frames s homes end frames)) bytes (version_frames s homes end frames) old
 framed s homes end bytes (Err fault) old = old
 

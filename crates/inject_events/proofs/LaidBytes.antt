@@ -18,7 +18,7 @@ use Rattle.code_model.proofs.CodeLayouts.Ready.{known}
 use Rattle.code_model.proofs.CodeLayouts.Walks.{le-end_from}
 use Rattle.jvm_model.specs.Rewriting.Versions.{is_return_opcode, group_of, probe_bytes}
 use Rattle.stackmap_shift.specs.declared.error.FrameError.{FrameError}
-use Rattle.stackmap_shift.specs.declared.frames.StackMapFrame.{StackMapFrame}
+use Rattle.stackmap_shift.specs.declared.frames.Frame.{Frame}
 use Rattle.stackmap_shift.specs.declared.frames.FrameKind.{FrameKind}
 use Rattle.stackmap_shift.specs.declared.frames.FrameKind.TheVariants.{Same, OneItem, Chop, Append, Full}
 use Rattle.stackmap_shift.specs.declared.frames.VType.{VType}
@@ -183,11 +183,11 @@ kind-bytes delta (Full locals operands) =
     both (u1 255) (u2 delta ++ both_lists) (number w8 255)
     (both (u2 delta) both_lists (number w16 delta) (both (counted_bytes locals) (counted_bytes operands) (counted-bytes locals) (counted-bytes operands)))
 
-frames-bytes : (before : Option ℕ) (frames : List StackMapFrame) → AreBytes (frames_bytes before frames)
+frames-bytes : (before : Option ℕ) (frames : List Frame) → AreBytes (frames_bytes before frames)
 frames-bytes before [] = tt
 frames-bytes before (frame ∷ rest) = both (frame_bytes before frame) (frames_bytes (Some frame.at) rest) (kind-bytes (delta_of before frame.at) frame.kind) (frames-bytes (Some frame.at) rest)
 
-pub table : (frames : List StackMapFrame) → AreBytes (table_bytes frames)
+pub table : (frames : List Frame) → AreBytes (table_bytes frames)
 table frames = both (u2 (length frames)) (frames_bytes None frames) (number w16 (length frames)) (frames-bytes None frames)
 
 rows : {A : Type 0} (row : A → List ℕ) (xs : List A) → ((x : A) → AreBytes (row x)) → AreBytes (rows_bytes row xs)

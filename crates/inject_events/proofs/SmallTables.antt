@@ -11,7 +11,7 @@ use Rattle.const_pool.specs.ClassFile.{raw_bytes}
 use Rattle.code_model.specs.declared.laying.Homes.{Homes}
 use Rattle.code_model.specs.Layout.{home_of}
 use Rattle.stackmap_shift.specs.declared.error.FrameError.{FrameError}
-use Rattle.stackmap_shift.specs.declared.frames.StackMapFrame.{StackMapFrame}
+use Rattle.stackmap_shift.specs.declared.frames.Frame.{Frame}
 use Rattle.stackmap_shift.specs.declared.frames.FrameKind.{FrameKind}
 use Rattle.stackmap_shift.specs.declared.frames.FrameKind.TheVariants.{Same, OneItem, Chop, Append, Full}
 use Rattle.stackmap_shift.specs.DebugTables.{shifted_lines, shifted_variables}
@@ -35,7 +35,7 @@ written-le : (b : Bool) (bytes written : List ℕ) → length written ≤ 3 * le
 written-le true bytes written short = short
 written-le false bytes written short = omega arith
 
-framed-le : (throwable : ℕ) (homes : Homes) (end : ℕ) (bytes : List ℕ) (r : Result (List StackMapFrame) FrameError) → frames_of bytes ≡ r → length (framed_by throwable homes end bytes r) ≤ 3 * length bytes + 10
+framed-le : (throwable : ℕ) (homes : Homes) (end : ℕ) (bytes : List ℕ) (r : Result (List Frame) FrameError) → frames_of bytes ≡ r → length (framed_by throwable homes end bytes r) ≤ 3 * length bytes + 10
 framed-le throwable homes end bytes (Ok frames) read =
     written-le (is_writable (frames_with_last throwable homes end frames)) bytes (table_bytes (frames_with_last throwable homes end frames))
     (length-moved_frames homes bytes frames (last_frame (home_of homes end) throwable ∷ []) read)
@@ -95,7 +95,7 @@ some-kind delta (Chop count) = omega arith
 some-kind delta (Append locals) = omega arith
 some-kind delta (Full locals operands) = omega arith
 
-frames-le : (before : Option ℕ) (frames : List StackMapFrame) → length frames ≤ length (frames_bytes before frames)
+frames-le : (before : Option ℕ) (frames : List Frame) → length frames ≤ length (frames_bytes before frames)
 frames-le before [] = omega arith
 frames-le before (frame ∷ rest) =
     let whole = length-append (frame_bytes before frame) (frames_bytes (Some frame.at) rest) in
@@ -106,16 +106,16 @@ frames-le before (frame ∷ rest) =
 abbrev no_homes : Homes
 no_homes = record { from = []; home = []; place = [] }
 
-read-le : (bytes : List ℕ) (frames : List StackMapFrame) → frames_of bytes ≡ Ok frames → length frames ≤ 3 * length bytes
+read-le : (bytes : List ℕ) (frames : List Frame) → frames_of bytes ≡ Ok frames → length frames ≤ 3 * length bytes
 read-le bytes frames read =
-    let moved : List StackMapFrame = moved_frames no_homes frames in
+    let moved : List Frame = moved_frames no_homes frames in
     let long = length-moved_frames no_homes bytes frames [] read in
     let all = frames-le None (moved ++ []) in
     let whole = length-append moved [] in
     let same = length-map frames (moved_frame no_homes) in
     omega arith
 
-counted-le : (bytes : List ℕ) (r : Result (List StackMapFrame) FrameError) → frames_of bytes ≡ r → frame_count r ≤ 3 * length bytes
+counted-le : (bytes : List ℕ) (r : Result (List Frame) FrameError) → frames_of bytes ≡ r → frame_count r ≤ 3 * length bytes
 counted-le bytes (Ok frames) read = read-le bytes frames read
 counted-le bytes (Err fault) read = omega arith
 

@@ -16,7 +16,7 @@ use Rattle.code_model.proofs.CodeLayouts.Layouts.{homes-increasing}
 use Rattle.code_model.proofs.Reading.Readings.{at-instruction_at, instruction_at_within}
 use Rattle.jvm_model.specs.Rewriting.Versions.{group_of}
 use Rattle.stackmap_shift.specs.declared.error.FrameError.{FrameError}
-use Rattle.stackmap_shift.specs.declared.frames.StackMapFrame.{StackMapFrame}
+use Rattle.stackmap_shift.specs.declared.frames.Frame.{Frame}
 use Rattle.stackmap_shift.specs.declared.frames.FrameKind.TheVariants.{Full}
 use Rattle.stackmap_shift.specs.declared.frames.VType.TheVariants.{Object}
 use Rattle.stackmap_shift.specs.Conditions.{IsBehind, Rise, AreWritable, AreHomes, EachStands}
@@ -100,27 +100,27 @@ behind-is : (before : Option ℕ) (at : ℕ) → IsBehind before at → is_behin
 behind-is None at is = refl
 behind-is (Some n) at is = lt-ltb n at is
 
-rise_from-Rise : (before : Option ℕ) (frames : List StackMapFrame) → Rise before frames → rise_from before frames ≡ true
+rise_from-Rise : (before : Option ℕ) (frames : List Frame) → Rise before frames → rise_from before frames ≡ true
 rise_from-Rise before [] rise = refl
 rise_from-Rise before (frame ∷ rest) rise = rw (behind-is before frame.at rise.0) (rise_from-Rise (Some frame.at) rest rise.1)
 
-writable-is : (frames : List StackMapFrame) → AreWritable frames → is_writable frames ≡ true
+writable-is : (frames : List Frame) → AreWritable frames → is_writable frames ≡ true
 writable-is frames are = rw (le-leb (length frames) 65535 are.few) (rise_from-Rise None frames are.rise)
 
-frames-writable : (s : Setting) (bytes : List ℕ) (homes : Homes) (frames : List StackMapFrame) → HasHomes bytes homes → EachStands (starts_of (instrs_in bytes)) frames → AreWritable frames → length frames < 65535
+frames-writable : (s : Setting) (bytes : List ℕ) (homes : Homes) (frames : List Frame) → HasHomes bytes homes → EachStands (starts_of (instrs_in bytes)) frames → AreWritable frames → length frames < 65535
     → AreWritable (version_frames s homes (length bytes) frames)
 frames-writable s bytes homes frames has stand writable few =
     let starts : List ℕ = starts_of (instrs_in bytes) in
     let end : ℕ = length bytes in
     let stands : EachStands homes.from frames = λ k d lt. subst (λ (xs : List ℕ). Contains xs (get_or frames k d).at) (sym has.from) (Contains-append_left starts (end ∷ []) (get_or frames k d).at (stand k d lt)) in
     let ends : Contains homes.from end = subst (λ (xs : List ℕ). Contains xs end) (sym has.from) (Contains-append_right starts (end ∷ []) end (All-contains_itself (end ∷ []) 0 end (omega arith))) in
-    let below : All (λ (f : StackMapFrame). f.at < end) frames = λ k d lt. All-contains (λ t. t < end) starts (get_or frames k d).at has.within (stand k d lt) in
+    let below : All (λ (f : Frame). f.at < end) frames = λ k d lt. All-contains (λ t. t < end) starts (get_or frames k d).at has.within (stand k d lt) in
     moved_frames-push homes frames end (Full [] (Object s.tail.throwable ∷ [])) has.are stands ends below writable few (omega arith, omega arith)
 
 frames-moved : (s : Setting) (bytes : List ℕ) (homes : Homes) (old : List ℕ) → HasHomes bytes homes → (sound : HasSoundFrames (starts_of (instrs_in bytes)) old) → (frame_count (frames_of old) == 65535) ≡ false
     → moved_frame_table s homes (length bytes) old ≡ table_bytes (version_frames s homes (length bytes) sound.frames)
 frames-moved s bytes homes old has sound room =
-    let frames : List StackMapFrame = sound.frames in
+    let frames : List Frame = sound.frames in
     let counted : frame_count (frames_of old) ≡ length frames = ap frame_count sound.read in
     let other = eqb-false (frame_count (frames_of old)) 65535 room in
     let few : length frames < 65535 = (let most = sound.writable.few in omega (arith, other)) in

@@ -7,7 +7,7 @@ use Rattle.const_pool.specs.declared.class.Raw.{Raw}
 use Rattle.code_model.specs.declared.instr.Instr.{Instr}
 use Rattle.code_model.specs.declared.laying.Homes.{Homes}
 use Rattle.jvm_model.specs.declared.event.Mark.{Mark}
-use Rattle.stackmap_shift.specs.declared.frames.StackMapFrame.{StackMapFrame}
+use Rattle.stackmap_shift.specs.declared.frames.Frame.{Frame}
 use Rattle.stackmap_shift.specs.Conditions.{AreWritable, EachStands}
 use Rattle.stackmap_shift.specs.DebugTables.{lines_of, variables_of, shifted_lines, shifted_variables}
 use Rattle.stackmap_shift.specs.Frames.{frames_of}
@@ -24,7 +24,7 @@ starts_of instrs = map (λ (i : Instr). i.at) instrs
 
 -- the frames of a table are in order, and each is at one of these starts
 pub record HasSoundFrames (starts bytes : List ℕ) : Type 0 where
-  pub frames : List StackMapFrame
+  pub frames : List Frame
   pub read : frames_of bytes ≡ Ok frames
   pub writable : AreWritable frames
   pub stand : EachStands starts frames
@@ -42,7 +42,7 @@ HasSoundTables s old = AllByRecursion (λ (raw : Raw). IsSoundTable (starts_of (
 abbrev pub IsMovedTable : Setting → Homes → ℕ → Table → List ℕ → List ℕ → Type 0
 IsMovedTable s homes end table.Lines old new = shifted_lines homes old ≡ Ok new
 IsMovedTable s homes end table.Variables old new = shifted_variables homes old ≡ Ok new
-IsMovedTable s homes end table.Frames old new = (frames : List StackMapFrame) × (frames_of old ≡ Ok frames) × (new ≡ table_bytes (version_frames s homes end frames))
+IsMovedTable s homes end table.Frames old new = (frames : List Frame) × (frames_of old ≡ Ok frames) × (new ≡ table_bytes (version_frames s homes end frames))
 IsMovedTable s homes end table.Other old new = new ≡ old
 
 abbrev pub IsMovedRaw : Setting → Homes → ℕ → Raw → Type 0

@@ -8,7 +8,7 @@ use Rattle.code_model.specs.declared.laying.Homes.{Homes}
 use Rattle.code_model.specs.Layout.{home_of}
 use Rattle.jvm_model.specs.Rewriting.ImageTables.{moved_lines, moved_variables, last_frame, frames_with_last, framed_by, moved_frames_of}
 use Rattle.stackmap_shift.specs.declared.error.FrameError.{FrameError}
-use Rattle.stackmap_shift.specs.declared.frames.StackMapFrame.{StackMapFrame}
+use Rattle.stackmap_shift.specs.declared.frames.Frame.{Frame}
 use Rattle.stackmap_shift.specs.Frames.{frames_of}
 use Rattle.stackmap_shift.specs.Spelling.{table_bytes}
 use Rattle.inject_events.specs.declared.settings.Setting.{Setting}
@@ -29,10 +29,10 @@ table_of s name =
 -- ---- frames (4.7.4)
 
 -- the frames by homes, and behind them the one of the added handler, which stands at the home of the code's end
-abbrev pub version_frames : Setting → Homes → ℕ → List StackMapFrame → List StackMapFrame
+abbrev pub version_frames : Setting → Homes → ℕ → List Frame → List Frame
 version_frames s homes end frames = frames_with_last s.tail.throwable homes end frames
 
-abbrev pub framed_or_kept : Setting → Homes → ℕ → List ℕ → Result (List StackMapFrame) FrameError → List ℕ
+abbrev pub framed_or_kept : Setting → Homes → ℕ → List ℕ → Result (List Frame) FrameError → List ℕ
 framed_or_kept s homes end bytes found = framed_by s.tail.throwable homes end bytes found
 
 abbrev pub moved_frame_table : Setting → Homes → ℕ → List ℕ → List ℕ
@@ -74,7 +74,7 @@ version_tables s homes end raws = map (moved_raw s homes end) raws ++ added_tabl
 
 -- ---- tables without room
 
-abbrev pub frame_count : Result (List StackMapFrame) FrameError → ℕ
+abbrev pub frame_count : Result (List Frame) FrameError → ℕ
 frame_count (Ok frames) = length frames
 frame_count (Err fault) = 0
 

@@ -14,17 +14,17 @@ use code_model::Homes;
 use const_pool::Raw;
 use jf_bytes::{NoMemory, Seq};
 use stackmap_shift::{
-    FrameError, FrameKind, Frames, StackMapFrame, VType, read_frames, shift_frames, write_frames,
+    Frame, FrameError, FrameKind, Frames, VType, read_frames, shift_frames, write_frames,
 };
 use std::alloc::Global;
 
 /// The frame of the added handler: no locals, and the exception.
-fn last_frame(alloc: Global, handler: u16, throwable: u16) -> Result<StackMapFrame, NoMemory>
+fn last_frame(alloc: Global, handler: u16, throwable: u16) -> Result<Frame, NoMemory>
     ensures { IfOk result (λ frame. frame ≡ last_frame handler throwable) }
 {
     let mut operands = Seq::new(alloc);
     operands.push(VType::Object(throwable))?;
-    Ok(StackMapFrame {
+    Ok(Frame {
         at: handler,
         kind: FrameKind::Full(Seq::new(alloc), operands),
     })
@@ -41,7 +41,7 @@ fn is_behind(before: Option<u16>, at: u16) -> bool
 }
 
 /// Whether each frame stands behind the one before.
-fn rise(frames: &[StackMapFrame]) -> bool
+fn rise(frames: &[Frame]) -> bool
     ensures { result ≡ rise_from None frames.now }
 {
     let mut before = None;
@@ -55,7 +55,7 @@ fn rise(frames: &[StackMapFrame]) -> bool
 }
 
 /// Whether a table can have these frames.
-fn is_writable(frames: &[StackMapFrame]) -> bool
+fn is_writable(frames: &[Frame]) -> bool
     ensures { result ≡ is_writable frames.now }
 {
     frames.len() <= 65535 && rise(frames)
@@ -115,7 +115,7 @@ pub(crate) fn moved_frame_table(
 }
 
 /// A table with the frame of the added handler alone.
-fn table_of_one(alloc: Global, frame: StackMapFrame) -> Result<Seq<u8>, NoMemory>
+fn table_of_one(alloc: Global, frame: Frame) -> Result<Seq<u8>, NoMemory>
     requires { FitsFrame frame }
     ensures { IfOk result (λ new. new ≡ table_bytes (frame ∷ [])) }
 {

@@ -57,6 +57,6 @@ impl Kinds for LinkedKinds<'_> {
     fn subtype(&self, lower: u32, upper: u32) -> bool {
         is_known(self.linker, lower)
             && is_known(self.linker, upper)
-            && self.linker.is_subkind(lower, upper)
+            && self.linker.subtype(lower, upper)
     }
 }

@@ -23,7 +23,7 @@ pub fn is_instance(linker: &Linker, heap: &Heap, object: u32, kind: u32) -> bool
     ensures { result ≡ is_below_kind linker.now.program (kind_at object heap.now) (Some kind) }
 {
     match kind_of_object(linker, heap, object) {
-        Some(lower) => linker.is_subkind(lower, kind),
+        Some(lower) => linker.subtype(lower, kind),
         None => false,
     }
 }

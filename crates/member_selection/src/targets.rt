@@ -156,7 +156,7 @@ fn is_of_named(linker: &Linker, lower: u32, kind: u32, last: Option<u32>) -> boo
     {
         return true;
     }
-    linker.is_subkind(lower, kind)
+    linker.subtype(lower, kind)
 }
 
 /// The kind of a receiver, where it is one that the instruction can take: the name's class was

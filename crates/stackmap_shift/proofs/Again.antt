@@ -13,7 +13,7 @@ use Rattle.stackmap_shift.specs.declared.frames.VType.{VType}
 use Rattle.stackmap_shift.specs.declared.frames.VType.TheVariants.{Top, Integer, Float, Double, Long, Null, UninitThis, Object, Uninit}
 use Rattle.stackmap_shift.specs.declared.frames.FrameKind.{FrameKind}
 use Rattle.stackmap_shift.specs.declared.frames.FrameKind.TheVariants.{Same, OneItem, Chop, Append, Full}
-use Rattle.stackmap_shift.specs.declared.frames.StackMapFrame.{StackMapFrame}
+use Rattle.stackmap_shift.specs.declared.frames.Frame.{Frame}
 use Rattle.stackmap_shift.specs.Tables.{◌>>=◌, Read, place, number_at, many_at, counted_at}
 use Rattle.stackmap_shift.specs.Frames.{object_at, uninit_at, behind_tag, type_at, form_of, short_delta, delta_by, delta_at, offset_behind, offset_at, known_form, one_item_at, append_at, full_at, kind_at, frame_at, frames_at, table_at, frames_of}
 use Rattle.stackmap_shift.specs.Spelling.{u1, u2, type_bytes, types_bytes, counted_bytes, delta_of, short_or_long, kind_bytes, frame_bytes, frames_bytes, table_bytes}
@@ -91,11 +91,11 @@ unfolding frame_at
 frame_of_steps before limit bytes kind behind f delta contents at k rest number is_form is_delta offset low is_kind =
     let start = place limit bytes in
     let told : offset_at start before delta ≡ Ok at = ap (λ n. cond (ltb 65535 n) (Err (Rattle.stackmap_shift.specs.declared.error.FrameError.TheVariants.BadFrame start)) (Ok n)) offset ∙ ap (λ b. cond b (Err (Rattle.stackmap_shift.specs.declared.error.FrameError.TheVariants.BadFrame start)) (Ok at)) (le-ltb 65535 at low) in
-    let made : ℕ → FrameKind × List ℕ → Read StackMapFrame = λ o x. Ok (record { at = o; kind = x.0 }, x.1) in
-    let behind_offset : Form → List ℕ → ℕ → Read StackMapFrame = λ g bs o. kind_at g limit bs >>= made o in
-    let behind_delta : Form → ℕ × List ℕ → Read StackMapFrame = λ g d. offset_at start before d.0 >>= behind_offset g d.1 in
-    let behind_form : ℕ × List ℕ → Form → Read StackMapFrame = λ n g. delta_at n.0 limit n.1 >>= behind_delta g in
-    let behind_kind : ℕ × List ℕ → Read StackMapFrame = λ n. known_form start (form_of n.0) >>= behind_form n in
+    let made : ℕ → FrameKind × List ℕ → Read Frame = λ o x. Ok (record { at = o; kind = x.0 }, x.1) in
+    let behind_offset : Form → List ℕ → ℕ → Read Frame = λ g bs o. kind_at g limit bs >>= made o in
+    let behind_delta : Form → ℕ × List ℕ → Read Frame = λ g d. offset_at start before d.0 >>= behind_offset g d.1 in
+    let behind_form : ℕ × List ℕ → Form → Read Frame = λ n g. delta_at n.0 limit n.1 >>= behind_delta g in
+    let behind_kind : ℕ × List ℕ → Read Frame = λ n. known_form start (form_of n.0) >>= behind_form n in
     next_is behind_kind _ (kind, behind) number
     ∙ next_is (behind_form (kind, behind)) _ f (ap (known_form start) is_form)
     ∙ next_is (behind_delta f) _ (delta, contents) is_delta
@@ -226,26 +226,26 @@ delta_low : (before : Option ℕ) (at : ℕ) → at ≤ 65535 → delta_of befor
 delta_low None at low = omega arith
 delta_low (Some b) at low = omega arith
 
-pub frame_again : (before : Option ℕ) (limit : ℕ) (f : StackMapFrame) (rest : List ℕ) → IsBehind before f.at → FitsFrame f → is_narrow_frame f ≡ true → frame_at before limit (frame_bytes before f ++ rest) ≡ Ok (f, rest)
+pub frame_again : (before : Option ℕ) (limit : ℕ) (f : Frame) (rest : List ℕ) → IsBehind before f.at → FitsFrame f → is_narrow_frame f ≡ true → frame_at before limit (frame_bytes before f ++ rest) ≡ Ok (f, rest)
 frame_again before limit f rest behind fits narrow =
     let parts = and_parts (is_u2 f.at) (is_narrow_kind f.kind) narrow in
     let lt = ltb-true f.at 65536 parts.0 in
     kind_again before limit (delta_of before f.at) f.at f.kind rest fits parts.1 (delta_low before f.at (omega arith)) (delta_back before f.at behind) (omega arith)
 
-pub frames_again : (before : Option ℕ) (limit : ℕ) (fs : List StackMapFrame) (rest : List ℕ) → Rise before fs → AllByRecursion FitsFrame fs → list_all is_narrow_frame fs ≡ true
+pub frames_again : (before : Option ℕ) (limit : ℕ) (fs : List Frame) (rest : List ℕ) → Rise before fs → AllByRecursion FitsFrame fs → list_all is_narrow_frame fs ≡ true
     → frames_at (length fs) before limit (frames_bytes before fs ++ rest) ≡ Ok (fs, rest)
 unfolding frames_at
 frames_again before limit [] rest rise fit narrow = refl
 frames_again before limit (f ∷ fs) rest rise fit narrow =
     let behind = frames_bytes (Some f.at) fs ++ rest in
-    let others : StackMapFrame × List ℕ → Read (List StackMapFrame) = λ x. frames_at (length fs) (Some x.0.at) limit x.1 >>= λ xs. Ok (x.0 ∷ xs.0, xs.1) in
+    let others : Frame × List ℕ → Read (List Frame) = λ x. frames_at (length fs) (Some x.0.at) limit x.1 >>= λ xs. Ok (x.0 ∷ xs.0, xs.1) in
     ap (frames_at (suc (length fs)) before limit) (append_assoc (frame_bytes before f) (frames_bytes (Some f.at) fs) rest)
     ∙ next_is others _ (f, behind) (frame_again before limit f behind rise.0 fit.0 (and_parts (is_narrow_frame f) (list_all is_narrow_frame fs) narrow).0)
-    ∙ next_is (λ (xs : List StackMapFrame × List ℕ). Ok (f ∷ xs.0, xs.1)) _ (fs, rest) (frames_again (Some f.at) limit fs rest rise.1 fit.1 (and_parts (is_narrow_frame f) (list_all is_narrow_frame fs) narrow).1)
+    ∙ next_is (λ (xs : List Frame × List ℕ). Ok (f ∷ xs.0, xs.1)) _ (fs, rest) (frames_again (Some f.at) limit fs rest rise.1 fit.1 (and_parts (is_narrow_frame f) (list_all is_narrow_frame fs) narrow).1)
 
 -- ---- the table
 
-table_again : (limit : ℕ) (fs : List StackMapFrame) → AreWritable fs → list_all is_narrow_frame fs ≡ true → table_at limit (table_bytes fs) ≡ Ok (fs, [])
+table_again : (limit : ℕ) (fs : List Frame) → AreWritable fs → list_all is_narrow_frame fs ≡ true → table_at limit (table_bytes fs) ≡ Ok (fs, [])
 unfolding table_at
 table_again limit fs writable narrow =
     let bytes = frames_bytes None fs in
@@ -253,6 +253,6 @@ table_again limit fs writable narrow =
     next_is (λ (n : ℕ × List ℕ). frames_at n.0 None limit n.1) _ (length fs, bytes) (u2_again limit (length fs) bytes (omega arith))
     ∙ ap (frames_at (length fs) None limit) (sym (append-nil bytes)) ∙ frames_again None limit fs [] writable.rise (recursion_from_All FitsFrame fs writable.fit) narrow
 
-pub frames_of-table_bytes : (fs : List StackMapFrame) → AreWritable fs → list_all is_narrow_frame fs ≡ true → frames_of (table_bytes fs) ≡ Ok fs
+pub frames_of-table_bytes : (fs : List Frame) → AreWritable fs → list_all is_narrow_frame fs ≡ true → frames_of (table_bytes fs) ≡ Ok fs
 unfolding frames_of
 frames_of-table_bytes fs writable narrow = rw (table_again (length (table_bytes fs)) fs writable narrow) refl

@@ -11,7 +11,7 @@ use Rattle.stackmap_shift.specs.declared.error.FrameError.{FrameError}
 use Rattle.stackmap_shift.specs.declared.error.FrameError.TheVariants.{BadFrame}
 use Rattle.stackmap_shift.specs.declared.forms.Form.{Form}
 use Rattle.stackmap_shift.specs.declared.forms.Form.TheVariants as form
-use Rattle.stackmap_shift.specs.declared.frames.StackMapFrame.{StackMapFrame}
+use Rattle.stackmap_shift.specs.declared.frames.Frame.{Frame}
 use Rattle.stackmap_shift.specs.declared.frames.FrameKind.{FrameKind}
 use Rattle.stackmap_shift.specs.declared.frames.VType.{VType}
 use Rattle.stackmap_shift.specs.Conditions.{FitsKind, FitsForm, FitsFrame, IsBehind, Rise, AreWritable}
@@ -218,12 +218,12 @@ offset-behind start before delta at e = by_far (nat_lt 65535 (offset_behind befo
 
 -- ---- frames
 
-record IsReadFrame (before : Option ℕ) (x : StackMapFrame × List ℕ) : Type 0 where
+record IsReadFrame (before : Option ℕ) (x : Frame × List ℕ) : Type 0 where
   behind : IsBehind before x.0.at
   fits : FitsFrame x.0
   rest : AreBytes x.1
 
-frame-read : (before : Option ℕ) (limit : ℕ) (bytes : List ℕ) (x : StackMapFrame × List ℕ) → AreBytes bytes → frame_at before limit bytes ≡ Ok x → IsReadFrame before x
+frame-read : (before : Option ℕ) (limit : ℕ) (bytes : List ℕ) (x : Frame × List ℕ) → AreBytes bytes → frame_at before limit bytes ≡ Ok x → IsReadFrame before x
 unfolding frame_at
 frame-read before limit bytes x all e =
     let start : ℕ = place limit bytes in
@@ -239,12 +239,12 @@ frame-read before limit bytes x all e =
     subst (IsReadFrame before) (ok_is _ x contents.2)
     (record { behind = offset-behind start before delta.0.0 offset.0 offset.1; fits = read.fits; rest = read.rest })
 
-record AreReadFrames (n : ℕ) (before : Option ℕ) (x : List StackMapFrame × List ℕ) : Type 0 where
+record AreReadFrames (n : ℕ) (before : Option ℕ) (x : List Frame × List ℕ) : Type 0 where
   count : length x.0 ≡ n
   rise : Rise before x.0
   fit : AllByRecursion FitsFrame x.0
 
-frames-read : (n : ℕ) (before : Option ℕ) (limit : ℕ) (bytes : List ℕ) (x : List StackMapFrame × List ℕ) → AreBytes bytes → frames_at n before limit bytes ≡ Ok x → AreReadFrames n before x
+frames-read : (n : ℕ) (before : Option ℕ) (limit : ℕ) (bytes : List ℕ) (x : List Frame × List ℕ) → AreBytes bytes → frames_at n before limit bytes ≡ Ok x → AreReadFrames n before x
 unfolding frames_at
 frames-read zero before limit bytes x all e = subst (AreReadFrames 0 before) (ok_is _ x e) (record { count = refl; rise = tt; fit = tt })
 frames-read (suc n) before limit bytes x all e =
@@ -255,7 +255,7 @@ frames-read (suc n) before limit bytes x all e =
     subst (AreReadFrames (suc n) before) (ok_is _ x others.2)
     (record { count = ap suc more.count; rise = (one.behind, more.rise); fit = (one.fits, more.fit) })
 
-table-read : (limit : ℕ) (bytes : List ℕ) (x : List StackMapFrame × List ℕ) → AreBytes bytes → table_at limit bytes ≡ Ok x → AreWritable x.0
+table-read : (limit : ℕ) (bytes : List ℕ) (x : List Frame × List ℕ) → AreBytes bytes → table_at limit bytes ≡ Ok x → AreWritable x.0
 unfolding table_at
 table-read limit bytes x all e =
     let count = ok_parts (number_at w16 limit bytes) _ x e in
@@ -265,7 +265,7 @@ table-read limit bytes x all e =
     let few = number.few in
     record { few = omega arith; rise = frames.rise; fit = All-from_recursion FitsFrame x.0 frames.fit }
 
-pub frames_of-writable : (bytes : List ℕ) (frames : List StackMapFrame) → AreBytes bytes → frames_of bytes ≡ Ok frames → AreWritable frames
+pub frames_of-writable : (bytes : List ℕ) (frames : List Frame) → AreBytes bytes → frames_of bytes ≡ Ok frames → AreWritable frames
 unfolding frames_of
 frames_of-writable bytes frames all e =
     let table = ok_parts (table_at (length bytes) bytes) _ frames e in

@@ -10,17 +10,17 @@ use Rattle.code_model.specs.Layout.{home_of}
 use Rattle.code_model.proofs.Offsets.Searches.{rise-lt, rise-le, home_of-at}
 use Rattle.stackmap_shift.specs.declared.frames.FrameKind.{FrameKind}
 use Rattle.stackmap_shift.specs.declared.frames.FrameKind.TheVariants.{Same, OneItem, Chop, Append, Full}
-use Rattle.stackmap_shift.specs.declared.frames.StackMapFrame.{StackMapFrame}
+use Rattle.stackmap_shift.specs.declared.frames.Frame.{Frame}
 use Rattle.stackmap_shift.specs.Moves.{moved_type, moved_kind, moved_frame, moved_frames}
 use Rattle.stackmap_shift.specs.Conditions.{FitsKind, FitsFrame, IsBehind, Rise, last_offset, AreWritable, AreHomes, EachStands}
 
 -- ---- one more frame
 
-pub last_offset-push : (before : Option ℕ) (frames : List StackMapFrame) (frame : StackMapFrame) → last_offset before (frames ++ frame ∷ []) ≡ Some frame.at
+pub last_offset-push : (before : Option ℕ) (frames : List Frame) (frame : Frame) → last_offset before (frames ++ frame ∷ []) ≡ Some frame.at
 last_offset-push before [] frame = refl
 last_offset-push before (f ∷ frames) frame = last_offset-push (Some f.at) frames frame
 
-pub Rise-push : (before : Option ℕ) (frames : List StackMapFrame) (frame : StackMapFrame) → Rise before frames → IsBehind (last_offset before frames) frame.at → Rise before (frames ++ frame ∷ [])
+pub Rise-push : (before : Option ℕ) (frames : List Frame) (frame : Frame) → Rise before frames → IsBehind (last_offset before frames) frame.at → Rise before (frames ++ frame ∷ [])
 Rise-push before [] frame rise behind = (behind, tt)
 Rise-push before (f ∷ frames) frame rise behind = (rise.0, Rise-push (Some f.at) frames frame rise.1 behind)
 
@@ -64,49 +64,49 @@ moved-FitsKind homes (Full locals operands) fits =
     let same_operands = length-map operands (moved_type homes) in
     (omega (arith, fits.0), omega (arith, fits.1))
 
-moved_frames-fit : (homes : Homes) (frames : List StackMapFrame) → AllByRecursion FitsFrame frames → AllByRecursion FitsFrame (moved_frames homes frames)
+moved_frames-fit : (homes : Homes) (frames : List Frame) → AllByRecursion FitsFrame frames → AllByRecursion FitsFrame (moved_frames homes frames)
 moved_frames-fit homes [] fit = tt
 moved_frames-fit homes (f ∷ frames) fit = (moved-FitsKind homes f.kind fit.0, moved_frames-fit homes frames fit.1)
 
-moved_frames-rise : (homes : Homes) (before : ℕ) (frames : List StackMapFrame) → AreHomes homes → Contains homes.from before → AllByRecursion (λ (f : StackMapFrame). Contains homes.from f.at) frames
+moved_frames-rise : (homes : Homes) (before : ℕ) (frames : List Frame) → AreHomes homes → Contains homes.from before → AllByRecursion (λ (f : Frame). Contains homes.from f.at) frames
     → Rise (Some before) frames → Rise (Some (home_of homes before)) (moved_frames homes frames)
 moved_frames-rise homes before [] are at_before stand rise = tt
 moved_frames-rise homes before (f ∷ frames) are at_before stand rise = (home_of-rises homes before f.at are at_before stand.0 rise.0, moved_frames-rise homes f.at frames are stand.0 stand.1 rise.1)
 
-moved_frames-rise_all : (homes : Homes) (frames : List StackMapFrame) → AreHomes homes → AllByRecursion (λ (f : StackMapFrame). Contains homes.from f.at) frames → Rise None frames → Rise None (moved_frames homes frames)
+moved_frames-rise_all : (homes : Homes) (frames : List Frame) → AreHomes homes → AllByRecursion (λ (f : Frame). Contains homes.from f.at) frames → Rise None frames → Rise None (moved_frames homes frames)
 moved_frames-rise_all homes [] are stand rise = tt
 moved_frames-rise_all homes (f ∷ frames) are stand rise = (tt, moved_frames-rise homes f.at frames are stand.0 stand.1 rise.1)
 
-pub moved_frames-writable : (homes : Homes) (frames : List StackMapFrame) → AreHomes homes → EachStands homes.from frames → AreWritable frames → AreWritable (moved_frames homes frames)
+pub moved_frames-writable : (homes : Homes) (frames : List Frame) → AreHomes homes → EachStands homes.from frames → AreWritable frames → AreWritable (moved_frames homes frames)
 moved_frames-writable homes frames are stand writable =
     let same = length-map frames (moved_frame homes) in
     record {
       few = omega (arith, writable.few);
-      rise = moved_frames-rise_all homes frames are (recursion_from_All (λ (f : StackMapFrame). Contains homes.from f.at) frames stand) writable.rise;
+      rise = moved_frames-rise_all homes frames are (recursion_from_All (λ (f : Frame). Contains homes.from f.at) frames stand) writable.rise;
       fit = All-from_recursion FitsFrame (moved_frames homes frames) (moved_frames-fit homes frames (recursion_from_All FitsFrame frames writable.fit));
     }
 
 -- ---- a frame behind moved ones
 
 -- what is behind each frame is behind the last
-behind_last : (before : Option ℕ) (frames : List StackMapFrame) (at : ℕ) → IsBehind before at → AllByRecursion (λ (f : StackMapFrame). f.at < at) frames → IsBehind (last_offset before frames) at
+behind_last : (before : Option ℕ) (frames : List Frame) (at : ℕ) → IsBehind before at → AllByRecursion (λ (f : Frame). f.at < at) frames → IsBehind (last_offset before frames) at
 behind_last before [] at behind below = behind
 behind_last before (f ∷ frames) at behind below = behind_last (Some f.at) frames at below.0 below.1
 
-moved_frames-below : (homes : Homes) (frames : List StackMapFrame) (at : ℕ) → AreHomes homes → Contains homes.from at → AllByRecursion (λ (f : StackMapFrame). Contains homes.from f.at) frames
-    → AllByRecursion (λ (f : StackMapFrame). f.at < at) frames → AllByRecursion (λ (f : StackMapFrame). f.at < home_of homes at) (moved_frames homes frames)
+moved_frames-below : (homes : Homes) (frames : List Frame) (at : ℕ) → AreHomes homes → Contains homes.from at → AllByRecursion (λ (f : Frame). Contains homes.from f.at) frames
+    → AllByRecursion (λ (f : Frame). f.at < at) frames → AllByRecursion (λ (f : Frame). f.at < home_of homes at) (moved_frames homes frames)
 moved_frames-below homes [] at are at_start stand below = tt
 moved_frames-below homes (f ∷ frames) at are at_start stand below = (home_of-rises homes f.at at are stand.0 at_start below.0, moved_frames-below homes frames at are at_start stand.1 below.1)
 
 -- So a frame at the home of an offset behind all frames can be added to them, such as the frame of a handler at the
 -- code's end.
-pub moved_frames-push : (homes : Homes) (frames : List StackMapFrame) (at : ℕ) (kind : FrameKind) → AreHomes homes → EachStands homes.from frames → Contains homes.from at → All (λ (f : StackMapFrame). f.at < at) frames
+pub moved_frames-push : (homes : Homes) (frames : List Frame) (at : ℕ) (kind : FrameKind) → AreHomes homes → EachStands homes.from frames → Contains homes.from at → All (λ (f : Frame). f.at < at) frames
     → AreWritable frames → length frames < 65535 → FitsKind kind → AreWritable (moved_frames homes frames ++ record { at = home_of homes at; kind = kind } ∷ [])
 moved_frames-push homes frames at kind are stand at_start below writable few fits =
     let moved = moved_frames homes frames in
-    let added : StackMapFrame = record { at = home_of homes at; kind = kind } in
+    let added : Frame = record { at = home_of homes at; kind = kind } in
     let whole = moved_frames-writable homes frames are stand writable in
-    let each = moved_frames-below homes frames at are at_start (recursion_from_All (λ (f : StackMapFrame). Contains homes.from f.at) frames stand) (recursion_from_All (λ (f : StackMapFrame). f.at < at) frames below) in
+    let each = moved_frames-below homes frames at are at_start (recursion_from_All (λ (f : Frame). Contains homes.from f.at) frames stand) (recursion_from_All (λ (f : Frame). f.at < at) frames below) in
     record {
       few = omega (arith, length-append moved (added ∷ []), length-map frames (moved_frame homes));
       rise = Rise-push None moved added whole.rise (behind_last None moved (home_of homes at) tt each);

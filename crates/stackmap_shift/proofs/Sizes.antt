@@ -14,7 +14,7 @@ use Rattle.stackmap_shift.specs.declared.error.FrameError.{FrameError}
 use Rattle.stackmap_shift.specs.declared.error.FrameError.TheVariants.{BadFrame}
 use Rattle.stackmap_shift.specs.declared.forms.Form.{Form}
 use Rattle.stackmap_shift.specs.declared.forms.Form.TheVariants as form
-use Rattle.stackmap_shift.specs.declared.frames.StackMapFrame.{StackMapFrame}
+use Rattle.stackmap_shift.specs.declared.frames.Frame.{Frame}
 use Rattle.stackmap_shift.specs.declared.frames.FrameKind.{FrameKind}
 use Rattle.stackmap_shift.specs.declared.frames.FrameKind.TheVariants.{Same, OneItem, Chop, Append, Full}
 use Rattle.stackmap_shift.specs.declared.frames.VType.{VType}
@@ -132,7 +132,7 @@ weight_of (Chop count) = 3
 weight_of (Append locals) = 3 + 3 * total one locals
 weight_of (Full locals operands) = 7 + 3 * (total one locals + total one operands)
 
-abbrev pub weight : StackMapFrame → ℕ
+abbrev pub weight : Frame → ℕ
 weight frame = weight_of frame.kind
 
 -- so much was taken, beside the frame's own type
@@ -174,7 +174,7 @@ delta-left : (limit : ℕ) (bytes : List ℕ) (o : Option ℕ) (x : ℕ × List 
 delta-left limit bytes (Some delta) x e = subst (λ (y : ℕ × List ℕ). length y.1 ≤ length bytes) (ok_is (delta, bytes) x e) (omega arith)
 delta-left limit bytes None x e = let left = u2-left limit bytes x e in omega arith
 
-frame-left : (before : Option ℕ) (limit : ℕ) (bytes : List ℕ) (x : StackMapFrame × List ℕ) → frame_at before limit bytes ≡ Ok x → weight x.0 + 3 * length x.1 ≤ 3 * length bytes
+frame-left : (before : Option ℕ) (limit : ℕ) (bytes : List ℕ) (x : Frame × List ℕ) → frame_at before limit bytes ≡ Ok x → weight x.0 + 3 * length x.1 ≤ 3 * length bytes
 unfolding frame_at
 frame-left before limit bytes x e =
     let start : ℕ = place limit bytes in
@@ -186,19 +186,19 @@ frame-left before limit bytes x e =
     let behind_kind = u1-left limit bytes kind.0 kind.1 in
     let behind_delta = delta-left limit kind.0.1 (short_delta kind.0.0) delta.0 delta.1 in
     let read = kind-left form.0 limit delta.0.1 contents.0 contents.1 in
-    subst (λ (y : StackMapFrame × List ℕ). weight y.0 + 3 * length y.1 ≤ 3 * length bytes) (ok_is _ x contents.2) (omega arith)
+    subst (λ (y : Frame × List ℕ). weight y.0 + 3 * length y.1 ≤ 3 * length bytes) (ok_is _ x contents.2) (omega arith)
 
-frames-left : (n : ℕ) (before : Option ℕ) (limit : ℕ) (bytes : List ℕ) (x : List StackMapFrame × List ℕ) → frames_at n before limit bytes ≡ Ok x → total weight x.0 + 3 * length x.1 ≤ 3 * length bytes
+frames-left : (n : ℕ) (before : Option ℕ) (limit : ℕ) (bytes : List ℕ) (x : List Frame × List ℕ) → frames_at n before limit bytes ≡ Ok x → total weight x.0 + 3 * length x.1 ≤ 3 * length bytes
 unfolding frames_at
-frames-left zero before limit bytes x e = subst (λ (y : List StackMapFrame × List ℕ). total weight y.0 + 3 * length y.1 ≤ 3 * length bytes) (ok_is _ x e) (omega arith)
+frames-left zero before limit bytes x e = subst (λ (y : List Frame × List ℕ). total weight y.0 + 3 * length y.1 ≤ 3 * length bytes) (ok_is _ x e) (omega arith)
 frames-left (suc n) before limit bytes x e =
     let first = ok_parts (frame_at before limit bytes) _ x e in
     let others = ok_parts (frames_at n (Some first.0.0.at) limit first.0.1) _ x first.2 in
     let one = frame-left before limit bytes first.0 first.1 in
     let more = frames-left n (Some first.0.0.at) limit first.0.1 others.0 others.1 in
-    subst (λ (y : List StackMapFrame × List ℕ). total weight y.0 + 3 * length y.1 ≤ 3 * length bytes) (ok_is _ x others.2) (omega arith)
+    subst (λ (y : List Frame × List ℕ). total weight y.0 + 3 * length y.1 ≤ 3 * length bytes) (ok_is _ x others.2) (omega arith)
 
-table-left : (limit : ℕ) (bytes : List ℕ) (x : List StackMapFrame × List ℕ) → table_at limit bytes ≡ Ok x → total weight x.0 + 6 ≤ 3 * length bytes
+table-left : (limit : ℕ) (bytes : List ℕ) (x : List Frame × List ℕ) → table_at limit bytes ≡ Ok x → total weight x.0 + 6 ≤ 3 * length bytes
 unfolding table_at
 table-left limit bytes x e =
     let count = ok_parts (number_at w16 limit bytes) _ x e in
@@ -206,12 +206,12 @@ table-left limit bytes x e =
     let frames = frames-left count.0.0 None limit count.0.1 x count.2 in
     omega arith
 
-read-weigh : (bytes : List ℕ) (frames : List StackMapFrame) → frames_of bytes ≡ Ok frames → total weight frames + 6 ≤ 3 * length bytes
+read-weigh : (bytes : List ℕ) (frames : List Frame) → frames_of bytes ≡ Ok frames → total weight frames + 6 ≤ 3 * length bytes
 unfolding frames_of
 read-weigh bytes frames e =
     let table = ok_parts (table_at (length bytes) bytes) _ frames e in
     let ends = ok_parts (nothing_left (length bytes) table.0.1) _ frames table.2 in
-    subst (λ (fs : List StackMapFrame). total weight fs + 6 ≤ 3 * length bytes) (ok_is table.0.0 frames ends.2) (table-left (length bytes) bytes table.0 table.1)
+    subst (λ (fs : List Frame). total weight fs + 6 ≤ 3 * length bytes) (ok_is table.0.0 frames ends.2) (table-left (length bytes) bytes table.0 table.1)
 
 -- ---- how long frames are
 
@@ -262,7 +262,7 @@ length-kind delta (Full locals operands) =
     let second = length-counted operands in
     omega arith
 
-length-frames : (before : Option ℕ) (frames : List StackMapFrame) → length (frames_bytes before frames) ≤ total weight frames
+length-frames : (before : Option ℕ) (frames : List Frame) → length (frames_bytes before frames) ≤ total weight frames
 length-frames before [] = omega arith
 length-frames before (frame ∷ rest) =
     let whole = length-append (frame_bytes before frame) (frames_bytes (Some frame.at) rest) in
@@ -270,7 +270,7 @@ length-frames before (frame ∷ rest) =
     let behind = length-frames (Some frame.at) rest in
     omega arith
 
-pub length-table : (frames : List StackMapFrame) → length (table_bytes frames) ≤ 2 + total weight frames
+pub length-table : (frames : List Frame) → length (table_bytes frames) ≤ 2 + total weight frames
 length-table frames = let all = length-frames None frames in omega arith
 
 -- ---- moves keep the weight
@@ -288,7 +288,7 @@ weight-moved homes (Full locals operands) =
     ap (λ n. 7 + 3 * (n + total one (map (moved_type homes) operands))) (one-map (moved_type homes) locals)
     ∙ ap (λ n. 7 + 3 * (total one locals + n)) (one-map (moved_type homes) operands)
 
-total-moved : (homes : Homes) (frames last : List StackMapFrame) → total weight (moved_frames homes frames ++ last) ≡ total weight frames + total weight last
+total-moved : (homes : Homes) (frames last : List Frame) → total weight (moved_frames homes frames ++ last) ≡ total weight frames + total weight last
 total-moved homes [] last = omega arith
 total-moved homes (frame ∷ rest) last =
     let here = weight-moved homes frame.kind in
@@ -298,7 +298,7 @@ total-moved homes (frame ∷ rest) last =
 -- ---- tables
 
 -- frames that were read, moved, with others behind them
-pub length-moved_frames : (homes : Homes) (bytes : List ℕ) (frames last : List StackMapFrame) → frames_of bytes ≡ Ok frames
+pub length-moved_frames : (homes : Homes) (bytes : List ℕ) (frames last : List Frame) → frames_of bytes ≡ Ok frames
     → length (table_bytes (moved_frames homes frames ++ last)) ≤ 3 * length bytes + total weight last
 length-moved_frames homes bytes frames last read =
     let long = length-table (moved_frames homes frames ++ last) in

@@ -9,7 +9,7 @@ use Rattle.stackmap_shift.specs.declared.frames.VType.{VType}
 use Rattle.stackmap_shift.specs.declared.frames.VType.TheVariants.{Object, Uninit}
 use Rattle.stackmap_shift.specs.declared.frames.FrameKind.{FrameKind}
 use Rattle.stackmap_shift.specs.declared.frames.FrameKind.TheVariants.{Same, OneItem, Chop, Append, Full}
-use Rattle.stackmap_shift.specs.declared.frames.StackMapFrame.{StackMapFrame}
+use Rattle.stackmap_shift.specs.declared.frames.Frame.{Frame}
 
 -- ---- frames that have bytes
 
@@ -26,7 +26,7 @@ FitsForm (form.Chop count) = (1 ≤ count) × (count ≤ 3)
 FitsForm (form.Append count) = (1 ≤ count) × (count ≤ 3)
 FitsForm _ = Unit {0}
 
-abbrev pub FitsFrame : StackMapFrame → Type 0
+abbrev pub FitsFrame : Frame → Type 0
 FitsFrame frame = FitsKind frame.kind
 
 -- it is behind the one before, if there is one
@@ -35,17 +35,17 @@ IsBehind None at = Unit {0}
 IsBehind (Some before) at = before < at
 
 -- the offsets rise strictly
-abbrev pub Rise : Option ℕ → List StackMapFrame → Type 0
+abbrev pub Rise : Option ℕ → List Frame → Type 0
 Rise before [] = Unit {0}
 Rise before (frame ∷ rest) = IsBehind before frame.at × Rise (Some frame.at) rest
 
 -- the offset of the last of frames, or the one before, where there are none
-abbrev pub last_offset : Option ℕ → List StackMapFrame → Option ℕ
+abbrev pub last_offset : Option ℕ → List Frame → Option ℕ
 last_offset before [] = before
 last_offset before (frame ∷ rest) = last_offset (Some frame.at) rest
 
 -- Frames that a table can spell.
-pub record AreWritable (frames : List StackMapFrame) : Type 0 where
+pub record AreWritable (frames : List Frame) : Type 0 where
   pub few : length frames ≤ 65535
   pub rise : Rise None frames
   pub fit : All FitsFrame frames
@@ -59,8 +59,8 @@ pub record AreHomes (given : Homes) : Type 0 where
   pub each : length given.home ≡ length given.from
 
 -- each frame is at one of these offsets
-abbrev pub EachStands : List ℕ → List StackMapFrame → Type 0
-EachStands starts frames = All (λ (frame : StackMapFrame). Contains starts frame.at) frames
+abbrev pub EachStands : List ℕ → List Frame → Type 0
+EachStands starts frames = All (λ (frame : Frame). Contains starts frame.at) frames
 
 -- ---- numbers of frames
 
@@ -80,5 +80,5 @@ is_narrow_kind (Full locals operands) = list_all is_narrow_type locals && list_a
 is_narrow_kind _ = true
 
 -- all numbers of a frame are u2
-abbrev pub is_narrow_frame : StackMapFrame → Bool
+abbrev pub is_narrow_frame : Frame → Bool
 is_narrow_frame frame = is_u2 frame.at && is_narrow_kind frame.kind

@@ -9,7 +9,7 @@ use Rattle.stackmap_shift.specs.declared.frames.VType.{VType}
 use Rattle.stackmap_shift.specs.declared.frames.VType.TheVariants.{Top, Integer, Float, Double, Long, Null, UninitThis, Object, Uninit}
 use Rattle.stackmap_shift.specs.declared.frames.FrameKind.{FrameKind}
 use Rattle.stackmap_shift.specs.declared.frames.FrameKind.TheVariants.{Same, OneItem, Chop, Append, Full}
-use Rattle.stackmap_shift.specs.declared.frames.StackMapFrame.{StackMapFrame}
+use Rattle.stackmap_shift.specs.declared.frames.Frame.{Frame}
 use Rattle.stackmap_shift.specs.Tables.{◌>>=◌, Read, place, number_at, many_at, counted_at, whole_of}
 
 -- ---- verification types
@@ -119,7 +119,7 @@ kind_at (form.Append count) limit bytes = append_at count limit bytes
 kind_at form.Full limit bytes = full_at limit bytes
 
 -- a frame behind one at the offset `before`, or the first one
-unfoldable pub frame_at : Option ℕ → ℕ → List ℕ → Read StackMapFrame
+unfoldable pub frame_at : Option ℕ → ℕ → List ℕ → Read Frame
 frame_at before limit bytes = do
   kind ← number_at w8 limit bytes
   form ← known_form (place limit bytes) (form_of kind.0)
@@ -129,7 +129,7 @@ frame_at before limit bytes = do
   Ok (record { at = offset; kind = contents.0 }, contents.1)
 
 -- so many frames behind one at the offset `before`, or from the first one on
-unfoldable pub frames_at : ℕ → Option ℕ → ℕ → List ℕ → Read (List StackMapFrame)
+unfoldable pub frames_at : ℕ → Option ℕ → ℕ → List ℕ → Read (List Frame)
 frames_at zero before limit bytes = Ok ([], bytes)
 frames_at (suc n) before limit bytes = do
   first ← frame_at before limit bytes
@@ -137,11 +137,11 @@ frames_at (suc n) before limit bytes = do
   Ok (first.0 ∷ others.0, others.1)
 
 -- the count, and the frames
-unfoldable pub table_at : ℕ → List ℕ → Read (List StackMapFrame)
+unfoldable pub table_at : ℕ → List ℕ → Read (List Frame)
 table_at limit bytes = do
   count ← number_at w16 limit bytes
   frames_at count.0 None limit count.1
 
 -- the frames that a table spells, or the first byte that breaks the grammar
-unfoldable pub frames_of : List ℕ → Result (List StackMapFrame) FrameError
+unfoldable pub frames_of : List ℕ → Result (List Frame) FrameError
 frames_of bytes = whole_of table_at bytes

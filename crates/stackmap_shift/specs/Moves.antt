@@ -6,7 +6,7 @@ use Rattle.stackmap_shift.specs.declared.frames.VType.{VType}
 use Rattle.stackmap_shift.specs.declared.frames.VType.TheVariants.{Top, Integer, Float, Double, Long, Null, UninitThis, Object, Uninit}
 use Rattle.stackmap_shift.specs.declared.frames.FrameKind.{FrameKind}
 use Rattle.stackmap_shift.specs.declared.frames.FrameKind.TheVariants.{Same, OneItem, Chop, Append, Full}
-use Rattle.stackmap_shift.specs.declared.frames.StackMapFrame.{StackMapFrame}
+use Rattle.stackmap_shift.specs.declared.frames.Frame.{Frame}
 
 -- where an instruction itself comes to stand
 abbrev pub place_of : Homes → ℕ → ℕ
@@ -34,8 +34,8 @@ moved_kind homes (Chop count) = Chop count
 moved_kind homes (Append locals) = Append (moved_types homes locals)
 moved_kind homes (Full locals operands) = Full (moved_types homes locals) (moved_types homes operands)
 
-abbrev pub moved_frame : Homes → StackMapFrame → StackMapFrame
+abbrev pub moved_frame : Homes → Frame → Frame
 moved_frame homes frame = record { at = home_of homes frame.at; kind = moved_kind homes frame.kind }
 
-abbrev pub moved_frames : Homes → List StackMapFrame → List StackMapFrame
+abbrev pub moved_frames : Homes → List Frame → List Frame
 moved_frames homes frames = map (moved_frame homes) frames

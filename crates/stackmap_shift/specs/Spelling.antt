@@ -7,7 +7,7 @@ use Rattle.stackmap_shift.specs.declared.frames.VType.{VType}
 use Rattle.stackmap_shift.specs.declared.frames.VType.TheVariants.{Top, Integer, Float, Double, Long, Null, UninitThis, Object, Uninit}
 use Rattle.stackmap_shift.specs.declared.frames.FrameKind.{FrameKind}
 use Rattle.stackmap_shift.specs.declared.frames.FrameKind.TheVariants.{Same, OneItem, Chop, Append, Full}
-use Rattle.stackmap_shift.specs.declared.frames.StackMapFrame.{StackMapFrame}
+use Rattle.stackmap_shift.specs.declared.frames.Frame.{Frame}
 
 abbrev pub u1 : ℕ → List ℕ
 u1 n = to_be_bytes w8 n
@@ -51,14 +51,14 @@ kind_bytes delta (Chop count) = u1 (251 - count) ++ u2 delta
 kind_bytes delta (Append locals) = u1 (251 + length locals) ++ (u2 delta ++ types_bytes locals)
 kind_bytes delta (Full locals operands) = u1 255 ++ (u2 delta ++ (counted_bytes locals ++ counted_bytes operands))
 
-abbrev pub frame_bytes : Option ℕ → StackMapFrame → List ℕ
+abbrev pub frame_bytes : Option ℕ → Frame → List ℕ
 frame_bytes before frame = kind_bytes (delta_of before frame.at) frame.kind
 
 -- frames behind one at the offset `before`, or from the first one on
-abbrev pub frames_bytes : Option ℕ → List StackMapFrame → List ℕ
+abbrev pub frames_bytes : Option ℕ → List Frame → List ℕ
 frames_bytes before [] = []
 frames_bytes before (frame ∷ rest) = frame_bytes before frame ++ frames_bytes (Some frame.at) rest
 
 -- the count, and the frames
-abbrev pub table_bytes : List StackMapFrame → List ℕ
+abbrev pub table_bytes : List Frame → List ℕ
 table_bytes frames = u2 (length frames) ++ frames_bytes None frames

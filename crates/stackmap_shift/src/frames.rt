@@ -36,7 +36,7 @@ pub enum FrameKind {
 
 /// A frame, and the offset of the instruction that it is for.
 #[derive(Debug, Drop)]
-pub struct StackMapFrame {
+pub struct Frame {
     pub at: u16,
     pub kind: FrameKind,
 }
@@ -44,5 +44,5 @@ pub struct StackMapFrame {
 /// The frames of a method, in order.
 #[derive(Debug, Drop)]
 pub struct Frames {
-    pub list: Seq<StackMapFrame>,
+    pub list: Seq<Frame>,
 }

@@ -14,7 +14,7 @@ mod writing;
 
 pub use debug::{is_line_table, is_variable_table, shift_lines, shift_vars};
 pub use error::FrameError;
-pub use frames::{FrameKind, Frames, StackMapFrame, VType};
+pub use frames::{Frame, FrameKind, Frames, VType};
 pub use moves::shift_frames;
 pub use reading::read_frames;
 pub use writing::write_frames;

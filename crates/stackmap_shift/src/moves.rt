@@ -5,7 +5,7 @@ ghost use Rattle.std.specs.List.Sorted.{IsStrictlyIncreasing};
 ghost use Rattle.stackmap_shift.specs.Moves.{place_of, moved_type, moved_types, moved_kind, moved_frame, moved_frames};
 ghost use Rattle.stackmap_shift.specs.Conditions.{AreHomes, AreWritable, EachStands};
 
-use crate::frames::{FrameKind, Frames, StackMapFrame, VType};
+use crate::frames::{Frame, FrameKind, Frames, VType};
 use code_model::Homes;
 use jf_bytes::{NoMemory, Seq};
 use std::alloc::Global;
@@ -62,24 +62,16 @@ fn moved_kind(alloc: Global, homes: &Homes, kind: &FrameKind) -> Result<FrameKin
     }
 }
 
-fn moved_frame(
-    alloc: Global,
-    homes: &Homes,
-    frame: &StackMapFrame,
-) -> Result<StackMapFrame, NoMemory>
+fn moved_frame(alloc: Global, homes: &Homes, frame: &Frame) -> Result<Frame, NoMemory>
     requires { IsStrictlyIncreasing homes.now.from }
     ensures { IfOk result (λ moved. moved ≡ moved_frame homes.now frame.now) }
 {
     let at = homes.home_of(frame.at);
     let kind = moved_kind(alloc, homes, &frame.kind)?;
-    Ok(StackMapFrame { at, kind })
+    Ok(Frame { at, kind })
 }
 
-fn moved_list(
-    alloc: Global,
-    homes: &Homes,
-    frames: &[StackMapFrame],
-) -> Result<Seq<StackMapFrame>, NoMemory>
+fn moved_list(alloc: Global, homes: &Homes, frames: &[Frame]) -> Result<Seq<Frame>, NoMemory>
     requires { IsStrictlyIncreasing homes.now.from }
     ensures { IfOk result (λ moved. moved ≡ moved_frames homes.now frames.now) }
 {

@@ -7,7 +7,7 @@ ghost use Rattle.stackmap_shift.specs.Conditions.{FitsForm, FitsKind, FitsFrame,
 
 use crate::error::FrameError;
 use crate::forms::{Form, delta_of, known_form, offset_of};
-use crate::frames::{FrameKind, Frames, StackMapFrame};
+use crate::frames::{Frame, FrameKind, Frames};
 use crate::lists::{counted_of, many_of};
 use crate::numbers::{nothing_left, u8_of, u16_of};
 use crate::types::{Types, type_of};
@@ -78,7 +78,7 @@ fn frame_of(
     before: Option<u16>,
     limit: usize,
     bytes: &[u8],
-) -> Result<(StackMapFrame, &[u8]), FrameError>
+) -> Result<(Frame, &[u8]), FrameError>
     ensures frame { Gives with_rest result (frame_at before limit bytes.now) }
     ensures fits { IfOk result (λ x. FitsFrame x.0) }
     ensures behind { IfOk result (λ x. IsBehind before x.0.at) }
@@ -89,7 +89,7 @@ fn frame_of(
     let (delta, rest) = delta_of(kind, limit, rest)?;
     let at = offset_of(start, before, delta)?;
     let (kind, rest) = kind_of(alloc, form, limit, rest)?;
-    Ok((StackMapFrame { at, kind }, rest))
+    Ok((Frame { at, kind }, rest))
 }
 
 /// So many frames, from the first one on.
@@ -98,7 +98,7 @@ fn frames_from(
     count: u16,
     limit: usize,
     bytes: &[u8],
-) -> Result<(Seq<StackMapFrame>, &[u8]), FrameError>
+) -> Result<(Seq<Frame>, &[u8]), FrameError>
     ensures frames { Gives with_rest result (frames_at count None limit bytes.now) }
     ensures writable { IfOk result (λ x. AreWritable x.0) }
 {
@@ -116,11 +116,7 @@ fn frames_from(
 
 /// The count and the frames.
 #[tactic(auto, unfolding(crate::specs::Frames::table_at))]
-fn table_of(
-    alloc: Global,
-    limit: usize,
-    bytes: &[u8],
-) -> Result<(Seq<StackMapFrame>, &[u8]), FrameError>
+fn table_of(alloc: Global, limit: usize, bytes: &[u8]) -> Result<(Seq<Frame>, &[u8]), FrameError>
     ensures frames { Gives with_rest result (table_at limit bytes.now) }
     ensures writable { IfOk result (λ x. AreWritable x.0) }
 {

@@ -6,7 +6,7 @@ ghost use Rattle.stackmap_shift.specs.Spelling.{u1, u2, type_bytes, types_bytes,
 ghost use Rattle.stackmap_shift.specs.Conditions.{FitsKind, FitsFrame, AreWritable, is_narrow_type, is_narrow_kind, is_narrow_frame};
 ghost use Rattle.std.specs.List.{list_all};
 
-use crate::frames::{FrameKind, Frames, StackMapFrame, VType};
+use crate::frames::{Frame, FrameKind, Frames, VType};
 use jf_bytes::{NoMemory, Seq};
 use std::alloc::Global;
 
@@ -151,7 +151,7 @@ fn put_kind(out: &mut Seq<u8>, delta: u16, kind: &FrameKind) -> Result<(), NoMem
 }
 
 /// Adds a frame behind one at the offset `before`.
-fn put_frame(out: &mut Seq<u8>, before: Option<u16>, frame: &StackMapFrame) -> Result<(), NoMemory>
+fn put_frame(out: &mut Seq<u8>, before: Option<u16>, frame: &Frame) -> Result<(), NoMemory>
     requires { FitsFrame frame.now }
     ensures bytes { OnOk result (out.new ≡ out.old ++ frame_bytes before frame.now) }
     ensures narrow { OnOk result (IsTrue (is_narrow_frame frame.now)) }
@@ -160,7 +160,7 @@ fn put_frame(out: &mut Seq<u8>, before: Option<u16>, frame: &StackMapFrame) -> R
 }
 
 /// Adds the frames, from the first one on.
-fn put_frames(out: &mut Seq<u8>, frames: &[StackMapFrame]) -> Result<(), NoMemory>
+fn put_frames(out: &mut Seq<u8>, frames: &[Frame]) -> Result<(), NoMemory>
     requires { All FitsFrame frames.now }
     ensures bytes { OnOk result (out.new ≡ out.old ++ frames_bytes None frames.now) }
     ensures narrow { OnOk result (IsTrue (list_all is_narrow_frame frames.now)) }

@@ -270,7 +270,7 @@ pub(super) fn subtype(
     if !is_known(linker, lower) {
         return None;
     }
-    Some(linker.is_subkind(lower, upper))
+    Some(linker.subtype(lower, upper))
 }
 
 #[test]

@@ -20,7 +20,7 @@ use Rattle.const_pool.specs.Tail.{tail_entries, with_tail, throwable_index}
 use Rattle.code_model.specs.declared.laying.Homes.{Homes}
 use Rattle.code_model.specs.Layout.{home_of}
 use Rattle.stackmap_shift.specs.declared.error.FrameError.{FrameError}
-use Rattle.stackmap_shift.specs.declared.frames.StackMapFrame.{StackMapFrame}
+use Rattle.stackmap_shift.specs.declared.frames.Frame.{Frame}
 use Rattle.stackmap_shift.specs.DebugTables.{shifted_lines, shifted_variables}
 use Rattle.stackmap_shift.specs.Frames.{frames_of}
 use Rattle.stackmap_shift.specs.Spelling.{table_bytes}
@@ -49,7 +49,7 @@ written-le : (b : Bool) (bytes table : List ℕ) → length table ≤ 3 * length
 written-le true bytes table short = short
 written-le false bytes table short = omega arith
 
-framed-le : (throwable : ℕ) (homes : Homes) (end : ℕ) (bytes : List ℕ) (r : Result (List StackMapFrame) FrameError) → frames_of bytes ≡ r → length (framed_by throwable homes end bytes r) ≤ 3 * length bytes + 10
+framed-le : (throwable : ℕ) (homes : Homes) (end : ℕ) (bytes : List ℕ) (r : Result (List Frame) FrameError) → frames_of bytes ≡ r → length (framed_by throwable homes end bytes r) ≤ 3 * length bytes + 10
 framed-le throwable homes end bytes (Ok frames) read =
     written-le (is_writable (frames_with_last throwable homes end frames)) bytes (table_bytes (frames_with_last throwable homes end frames))
     (length-moved_frames homes bytes frames (last_frame (home_of homes end) throwable ∷ []) read)

@@ -1,4 +1,4 @@
--- The moves behind an instruction of a small class: there are none, but that the run returns where nothing is left.
+-- The moves behind an instruction: there are none, but that the run returns where nothing is left.
 use Rattle.std.proofs.Common.{◌≡◌, ℕ, zero, suc, None, refl, ap}
 use Rattle.std.specs.Option.{option_map_or}
 use Rattle.jvm_model.specs.Basis.Data.{Turn, Listing, World}

@@ -10,7 +10,7 @@ use Rattle.const_pool.specs.Tail.{with_tail, throwable_index, frames_index}
 use Rattle.code_model.specs.declared.laying.Homes.{Homes}
 use Rattle.code_model.specs.Layout.{home_of}
 use Rattle.stackmap_shift.specs.declared.error.FrameError.{FrameError}
-use Rattle.stackmap_shift.specs.declared.frames.StackMapFrame.{StackMapFrame}
+use Rattle.stackmap_shift.specs.declared.frames.Frame.{Frame}
 use Rattle.stackmap_shift.specs.declared.frames.FrameKind.TheVariants.{Full}
 use Rattle.stackmap_shift.specs.declared.frames.VType.TheVariants.{Object}
 use Rattle.stackmap_shift.specs.DebugTables.{shifted_lines, shifted_variables}
@@ -36,7 +36,7 @@ moved_variables homes bytes = moved_or_kept bytes (shifted_variables homes bytes
 -- ---- frames (4.7.4)
 
 -- the frame of the added handler: no locals, and a java/lang/Throwable
-abbrev pub last_frame : ℕ → ℕ → StackMapFrame
+abbrev pub last_frame : ℕ → ℕ → Frame
 last_frame handler throwable = record { at = handler; kind = Full [] (Object throwable ∷ []) }
 
 -- whether a frame stands behind the one before
@@ -44,23 +44,23 @@ abbrev pub is_behind : Option ℕ → ℕ → Bool
 is_behind None at = true
 is_behind (Some before) at = nat_lt before at
 
-abbrev pub rise_from : Option ℕ → List StackMapFrame → Bool
+abbrev pub rise_from : Option ℕ → List Frame → Bool
 rise_from before [] = true
 rise_from before (frame ∷ rest) = is_behind before frame.at && rise_from (Some frame.at) rest
 
 -- whether a table can have these frames
-abbrev pub is_writable : List StackMapFrame → Bool
+abbrev pub is_writable : List Frame → Bool
 is_writable frames = nat_le (length frames) 65535 && rise_from None frames
 
-abbrev pub written_or_kept : List ℕ → List StackMapFrame → List ℕ
+abbrev pub written_or_kept : List ℕ → List Frame → List ℕ
 written_or_kept bytes frames = if is_writable frames then table_bytes frames else bytes
 
 -- The frames by homes, and behind them the one of the added handler, which stands at the home of the code's end. The
 -- class at the index `throwable` is java/lang/Throwable.
-abbrev pub frames_with_last : ℕ → Homes → ℕ → List StackMapFrame → List StackMapFrame
+abbrev pub frames_with_last : ℕ → Homes → ℕ → List Frame → List Frame
 frames_with_last throwable homes end frames = moved_frames homes frames ++ last_frame (home_of homes end) throwable ∷ []
 
-abbrev pub framed_by : ℕ → Homes → ℕ → List ℕ → Result (List StackMapFrame) FrameError → List ℕ
+abbrev pub framed_by : ℕ → Homes → ℕ → List ℕ → Result (List Frame) FrameError → List ℕ
 framed_by throwable homes end bytes (Ok frames) = written_or_kept bytes (frames_with_last throwable homes end frames)
 framed_by throwable homes end bytes (Err fault) = bytes
 

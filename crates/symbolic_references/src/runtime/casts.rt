@@ -48,7 +48,7 @@ impl Runtime {
         {
             return true;
         }
-        if !self.linker.is_subkind(lower, kind) {
+        if !self.linker.subtype(lower, kind) {
             return false;
         }
         *found = Found::Below(lower);

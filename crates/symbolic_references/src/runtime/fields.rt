@@ -135,7 +135,7 @@ impl Runtime {
             (λ owner. extends self.now.world.program owner.class field.class ≡ true) }
     {
         let lower = kind_of_object(&self.linker, &self.heap, object)?;
-        if !self.linker.is_subkind(lower, kind) {
+        if !self.linker.subtype(lower, kind) {
             return None;
         }
         let class = self.linker.index().class_of_kind(lower);
@@ -193,7 +193,7 @@ impl Runtime {
         if lower == last {
             return true;
         }
-        self.linker.is_subkind(lower, kind)
+        self.linker.subtype(lower, kind)
             && self
                 .linker
                 .extends(self.linker.index().class_of_kind(lower), field.class)

@@ -294,7 +294,7 @@ impl Runtime {
             Selecting::Virtual => self.selections.chosen(kind, false, site.method, last),
             Selecting::OfInterface => self.selections.chosen(kind, true, site.method, last),
             Selecting::Special(_, _) => {
-                if self.linker.is_subkind(last, kind) {
+                if self.linker.subtype(last, kind) {
                     Some(site.chosen)
                 } else {
                     None
