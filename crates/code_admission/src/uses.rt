@@ -21,7 +21,10 @@ use crate::texts::{dimensions_of, is_class_name, is_field_text, method_kinds};
 use code_model::{Arg, Instr};
 use const_pool::{Const, Kind, MemberRef, Pool};
 use jf_bytes::{NoMemory, Text16};
-use op_table::{ARETURN, INVOKESPECIAL, IRETURN, NEW, RETURN};
+use op_table::{
+    ANEWARRAY, ARETURN, DRETURN, FRETURN, GETSTATIC, INVOKEINTERFACE, INVOKESPECIAL, INVOKESTATIC,
+    INVOKEVIRTUAL, IRETURN, LDC, LDC_W, LDC2_W, LRETURN, NEW, PUTFIELD, RETURN,
+};
 use std::alloc::Global;
 
 /// What an instruction with an index takes from the pool.
@@ -55,15 +58,15 @@ fn is_among(first: u8, last: u8, op: u8) -> bool
 fn pool_use(op: u8) -> PoolUse
     ensures { result ≡ pool_use op }
 {
-    if is_among(18, 19, op) {
+    if is_among(LDC, LDC_W, op) {
         PoolUse::Loadable
-    } else if op == 20 {
+    } else if op == LDC2_W {
         PoolUse::Wide
-    } else if is_among(178, 181, op) {
+    } else if is_among(GETSTATIC, PUTFIELD, op) {
         PoolUse::Field
-    } else if is_among(182, 184, op) {
+    } else if is_among(INVOKEVIRTUAL, INVOKESTATIC, op) {
         PoolUse::Method
-    } else if op == 185 {
+    } else if op == INVOKEINTERFACE {
         PoolUse::InterfaceMethod
     } else {
         PoolUse::Class
@@ -353,11 +356,11 @@ pub fn fits_return(given: Option<Kind>, op: u8) -> bool
 {
     if op == IRETURN {
         is_int_kind(given)
-    } else if op == 173 {
+    } else if op == LRETURN {
         is_long_kind(given)
-    } else if op == 174 {
+    } else if op == FRETURN {
         is_float_kind(given)
-    } else if op == 175 {
+    } else if op == DRETURN {
         is_double_kind(given)
     } else if op == ARETURN {
         is_reference_kind(given)
@@ -387,7 +390,7 @@ pub fn fits_type(pool: &Pool, op: u8, arg: &Arg) -> bool
         Arg::Pool(index) => {
             if op == NEW {
                 named_dimensions(pool, *index) == 0
-            } else if op == 189 {
+            } else if op == ANEWARRAY {
                 named_dimensions(pool, *index) != 255
             } else {
                 true

@@ -27,7 +27,10 @@ use heap_objects::{Datum, Value};
 use jf_bytes::NoMemory;
 use jvm_basic::{Hot, hot_by, value_of};
 use jvm_model::{Family, Operation, family_of};
-use op_table::ATHROW;
+use op_table::{
+    AALOAD, AASTORE, ARRAYLENGTH, ATHROW, BALOAD, BASTORE, CALOAD, CASTORE, IALOAD, IASTORE,
+    LALOAD, LASTORE, MONITORENTER, MONITOREXIT, NEWARRAY, SALOAD, SASTORE,
+};
 use std::alloc::Global;
 
 /// The number that an entry of the pool is.
@@ -165,7 +168,7 @@ fn is_primitive(code: u8) -> bool
 fn newarray(op: u8, code: u8) -> Option<Operation<LocalAction>>
     ensures { result ≡ option_map operation_kept (newarray_of op code) }
 {
-    if op == 188 && is_primitive(code) {
+    if op == NEWARRAY && is_primitive(code) {
         Some(Operation::Newarray(FIRST_ARRAY + code as u32))
     } else {
         None
@@ -177,21 +180,21 @@ fn object_operation(op: u8) -> Option<Operation<LocalAction>>
     ensures { result ≡ option_map operation_kept (object_among object_rows op) }
 {
     match op {
-        46 => Some(Operation::LoadElement(Kind::Int)),
-        47 => Some(Operation::LoadElement(Kind::Long)),
-        50 => Some(Operation::LoadElement(Kind::Ref)),
-        51 => Some(Operation::LoadElement(Kind::Byte)),
-        52 => Some(Operation::LoadElement(Kind::Char)),
-        53 => Some(Operation::LoadElement(Kind::Short)),
-        79 => Some(Operation::StoreElement(Kind::Int)),
-        80 => Some(Operation::StoreElement(Kind::Long)),
-        83 => Some(Operation::StoreElement(Kind::Ref)),
-        84 => Some(Operation::StoreElement(Kind::Byte)),
-        85 => Some(Operation::StoreElement(Kind::Char)),
-        86 => Some(Operation::StoreElement(Kind::Short)),
-        190 => Some(Operation::Arraylength),
+        IALOAD => Some(Operation::LoadElement(Kind::Int)),
+        LALOAD => Some(Operation::LoadElement(Kind::Long)),
+        AALOAD => Some(Operation::LoadElement(Kind::Ref)),
+        BALOAD => Some(Operation::LoadElement(Kind::Byte)),
+        CALOAD => Some(Operation::LoadElement(Kind::Char)),
+        SALOAD => Some(Operation::LoadElement(Kind::Short)),
+        IASTORE => Some(Operation::StoreElement(Kind::Int)),
+        LASTORE => Some(Operation::StoreElement(Kind::Long)),
+        AASTORE => Some(Operation::StoreElement(Kind::Ref)),
+        BASTORE => Some(Operation::StoreElement(Kind::Byte)),
+        CASTORE => Some(Operation::StoreElement(Kind::Char)),
+        SASTORE => Some(Operation::StoreElement(Kind::Short)),
+        ARRAYLENGTH => Some(Operation::Arraylength),
         ATHROW => Some(Operation::Athrow),
-        194 | 195 => Some(Operation::Monitor),
+        MONITORENTER | MONITOREXIT => Some(Operation::Monitor),
         _ => None,
     }
 }

@@ -21,7 +21,10 @@ use class_index::meaning_of;
 use const_pool::{ClassFile, Kind, MemberRef, Pool, text_copy};
 use jf_bytes::{NoMemory, Seq, Text16};
 use jvm_model::{MemberName, MethodName, Operation, SymbolicReference};
-use op_table::{GETSTATIC, INVOKESPECIAL, INVOKESTATIC, INVOKEVIRTUAL, NEW};
+use op_table::{
+    ANEWARRAY, CHECKCAST, GETFIELD, GETSTATIC, INSTANCEOF, INVOKEINTERFACE, INVOKESPECIAL,
+    INVOKESTATIC, INVOKEVIRTUAL, MULTIANEWARRAY, NEW, PUTFIELD, PUTSTATIC,
+};
 use std::alloc::Global;
 
 // ---- names
@@ -140,16 +143,16 @@ pub fn symbolic_reference_of(
     let pool = &class.pool;
     match op {
         GETSTATIC => Ok(field_in(alloc, pool, index)?.map(SymbolicReference::Getstatic)),
-        179 => Ok(field_in(alloc, pool, index)?.map(SymbolicReference::Putstatic)),
-        180 => Ok(field_in(alloc, pool, index)?.map(SymbolicReference::Getfield)),
-        181 => Ok(field_in(alloc, pool, index)?.map(SymbolicReference::Putfield)),
+        PUTSTATIC => Ok(field_in(alloc, pool, index)?.map(SymbolicReference::Putstatic)),
+        GETFIELD => Ok(field_in(alloc, pool, index)?.map(SymbolicReference::Getfield)),
+        PUTFIELD => Ok(field_in(alloc, pool, index)?.map(SymbolicReference::Putfield)),
         INVOKEVIRTUAL => Ok(method_in(alloc, pool, index)?.map(SymbolicReference::Invokevirtual)),
         INVOKESPECIAL => special_in(alloc, class, index),
         INVOKESTATIC => Ok(method_in(alloc, pool, index)?.map(SymbolicReference::Invokestatic)),
         NEW => Ok(class_in(alloc, pool, index)?.map(SymbolicReference::New)),
-        189 => Ok(class_in(alloc, pool, index)?.map(SymbolicReference::Anewarray)),
-        192 => Ok(class_in(alloc, pool, index)?.map(SymbolicReference::Checkcast)),
-        193 => Ok(class_in(alloc, pool, index)?.map(SymbolicReference::Instanceof)),
+        ANEWARRAY => Ok(class_in(alloc, pool, index)?.map(SymbolicReference::Anewarray)),
+        CHECKCAST => Ok(class_in(alloc, pool, index)?.map(SymbolicReference::Checkcast)),
+        INSTANCEOF => Ok(class_in(alloc, pool, index)?.map(SymbolicReference::Instanceof)),
         _ => Ok(None),
     }
 }
@@ -164,7 +167,7 @@ pub fn interface_reference(
     ensures { IfOk result (λ n. n ≡ interface_reference class.now op index) }
 {
     match op {
-        185 => Ok(interface_method_in(alloc, &class.pool, index)?.map(
+        INVOKEINTERFACE => Ok(interface_method_in(alloc, &class.pool, index)?.map(
             SymbolicReference::Invokeinterface,
         )),
         _ => Ok(None),
@@ -182,7 +185,7 @@ pub fn array_reference(
     ensures { IfOk result
         (λ n. n ≡ array_reference class.now op index dimensions) }
 {
-    if op != 197 {
+    if op != MULTIANEWARRAY {
         return Ok(None);
     }
     match class_in(alloc, &class.pool, index)? {
