@@ -3,7 +3,7 @@ use Rattle.std.specs.Prelude.{slice_set}
 use Rattle.jvm_model.specs.Profiling.Revealed.{without_method}
 use Rattle.call_revelation.specs.Flags.{AreFlagged}
 use Rattle.call_revelation.proofs.Revelations.FlagLemmas.{flagged-less}
-use Rattle.call_revelation.proofs.selection.Selection.deselect.Goals as goal
+use Rattle.call_revelation.proofs.selection.SelectedMethods.deselect.Goals as goal
 
 pub invariant_of-self : goal.invariant_of-self
 invariant_of-self c =

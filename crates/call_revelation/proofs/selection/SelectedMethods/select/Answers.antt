@@ -3,7 +3,7 @@ use Rattle.std.specs.Prelude.{slice_set}
 use Rattle.jvm_model.specs.Profiling.Revealed.{without_method}
 use Rattle.call_revelation.specs.Flags.{AreFlagged}
 use Rattle.call_revelation.proofs.Revelations.FlagLemmas.{flagged-more, flagged-padded}
-use Rattle.call_revelation.proofs.selection.Selection.select.Goals as goal
+use Rattle.call_revelation.proofs.selection.SelectedMethods.select.Goals as goal
 
 pub invariant_of-self-2 : goal.invariant_of-self-2
 invariant_of-self-2 c =
