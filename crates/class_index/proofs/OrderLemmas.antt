@@ -1,7 +1,8 @@
 -- Each class once is searched as all of them are.
-use Rattle.std.proofs.Common.{◌≡◌, ℕ, Bool, true, false, List, [], ◌∷◌, ◌++◌, ap, sym, refl, ◌∙◌}
+use Rattle.std.proofs.Common.{◌≡◌, ℕ, Bool, true, false, List, [], ◌∷◌, ◌++◌, ap, ap₂, sym, refl, ◌∙◌, length, take}
 use Rattle.std.specs.Prelude.{Option, Some, None, ◌==◌, ◌||◌, if◌then◌else◌}
 use Rattle.std.specs.Option.{option_map_or, option_or}
+use Rattle.std.specs.Io.{StartsWith}
 use Rattle.std.proofs.lemmas.List.{append_assoc, append-nil}
 use Rattle.std.proofs.lemmas.Bool.{false≢true, eqb-true}
 use Rattle.jvm_model.specs.Classes.Load.{is_among}
@@ -80,3 +81,28 @@ more xs (y ∷ ys) at =
 
 pub first_in_both : (at : ℕ → Option ℕ) (xs ys : List ℕ) → first_in at (xs ++ ys) ≡ option_or (first_in at xs) (first_in at ys)
 first_in_both at xs ys = first_in-append at xs ys
+
+-- ---- the classes that are there come first
+
+-- a list begins with itself
+starts-self : (xs : List ℕ) → StartsWith xs xs
+starts-self [] = refl
+starts-self (x ∷ xs) = ap (λ rest. x ∷ rest) (starts-self xs)
+
+-- and with what its front begins with
+starts-shorter : (xs ys zs : List ℕ) → StartsWith zs (xs ++ ys) → StartsWith zs xs
+starts-shorter [] ys zs is = refl
+starts-shorter (x ∷ xs) ys [] is = absurd cc
+starts-shorter (x ∷ xs) ys (z ∷ zs) is =
+    let head : z ≡ x = cc in
+    let rest : take (length (xs ++ ys)) zs ≡ xs ++ ys = cc in
+    ap₂ (λ a b. a ∷ b) head (starts-shorter xs ys zs rest)
+
+pub starts-with : (xs ys : List ℕ) → StartsWith (with_classes xs ys) xs
+starts-with xs [] = starts-self xs
+starts-with xs (y ∷ ys) = by (is_among y xs) (starts-with (with_class xs y) ys)
+  where
+    by : (b : Bool) → StartsWith (with_classes (if b then xs else xs ++ y ∷ []) ys) (if b then xs else xs ++ y ∷ [])
+        → StartsWith (with_classes (if b then xs else xs ++ y ∷ []) ys) xs
+    by true is = is
+    by false is = starts-shorter xs (y ∷ []) (with_classes (xs ++ y ∷ []) ys) is

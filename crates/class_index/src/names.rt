@@ -1,6 +1,6 @@
 //! The names of a program's classes.
 
-ghost use Rattle.std.specs.Prelude.{◌≡◌, [], None, OnOk};
+ghost use Rattle.std.specs.Prelude.{◌≡◌, [], None, if◌then◌else◌, is_ok};
 ghost use Rattle.class_index.specs.Names.{position_of, with_first, with_named};
 
 use indexmap::IndexMap;
@@ -42,7 +42,8 @@ impl Names {
 
     fn put(&mut self, alloc: Global, units: &[u16], position: u32) -> Result<(), NoMemory>
         requires { position_of units.now self.old ≡ None }
-        ensures { OnOk result (self.new ≡ with_named units.now position self.old) }
+        ensures { self.new ≡
+            (if is_ok result then with_named units.now position self.old else self.old) }
     {
         let key = Vec::from_slice(alloc, units)?;
         self.positions.insert(key, position)?;
@@ -51,7 +52,8 @@ impl Names {
 
     /// Notes the position of a class, unless an earlier one has its name.
     pub fn add(&mut self, alloc: Global, units: &[u16], position: u32) -> Result<(), NoMemory>
-        ensures { OnOk result (self.new ≡ with_first units.now position self.old) }
+        ensures { self.new ≡
+            (if is_ok result then with_first units.now position self.old else self.old) }
     {
         match self.find(units) {
             Some(_) => Ok(()),

@@ -1,6 +1,7 @@
 //! Classes in an order, each once.
 
-ghost use Rattle.std.specs.Prelude.{◌≡◌, [], if◌then◌else◌, is_ok, length, take, OnOk};
+ghost use Rattle.std.specs.Prelude.{◌≡◌, [], if◌then◌else◌, is_ok, length, take, OnErr, OnOk};
+ghost use Rattle.std.specs.Io.{StartsWith};
 ghost use Rattle.class_index.specs.Orders.{with_class, with_classes};
 ghost use Rattle.jvm_model.specs.Classes.Load.{is_among};
 
@@ -61,9 +62,10 @@ impl Order {
         Ok(())
     }
 
-    /// Adds those of these classes that are none of them.
+    /// Adds those of these classes that are none of them. Where memory runs out the first of them are there.
     pub fn add_all(&mut self, classes: &[u32]) -> Result<(), NoMemory>
-        ensures { OnOk result (self.new ≡ with_classes self.old classes.now) }
+        ensures added { OnOk result (self.new ≡ with_classes self.old classes.now) }
+        ensures begun { OnErr result (StartsWith (with_classes self.old classes.now) self.new) }
     {
         for class in classes {
             self.add(*class)?;

@@ -14,7 +14,7 @@ loop-class-preserved c = λ m.
     next-added f c.args.classes.now i 0 c.loop-class.found c.add_all.new.self m
     (is_among m c.args.found.now || is_among m (flat_map f c.args.classes.now)) c.loop-class-test.true
     (adds-equal c.loop-class.found c.add_all.new.self (f (get_or c.args.classes.now i 0))
-    (c.in_ok-add_all.ensures ∙ ap (with_classes c.loop-class.found) c.above.ensures)) (c.loop-class.invariant m)
+    (c.in_ok-add_all.ensures.added ∙ ap (with_classes c.loop-class.found) c.above.ensures)) (c.loop-class.invariant m)
 
 pub returns : goal.returns
 returns c = λ m.
