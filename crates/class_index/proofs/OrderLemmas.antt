@@ -1,6 +1,6 @@
 -- Each class once is searched as all of them are.
 use Rattle.std.proofs.Common.{◌≡◌, ℕ, Bool, true, false, List, [], ◌∷◌, ◌++◌, ap, ap₂, sym, refl, ◌∙◌, length, take}
-use Rattle.std.specs.Prelude.{Option, Some, None, ◌==◌, ◌||◌, if◌then◌else◌}
+use Rattle.std.specs.Prelude.{Option, Some, None, Result, Ok, Err, OnErr, ◌==◌, ◌||◌, if◌then◌else◌}
 use Rattle.std.specs.Option.{option_map_or, option_or}
 use Rattle.std.specs.Io.{StartsWith}
 use Rattle.std.proofs.lemmas.List.{append_assoc, append-nil}
@@ -106,3 +106,8 @@ starts-with xs (y ∷ ys) = by (is_among y xs) (starts-with (with_class xs y) ys
         → StartsWith (with_classes (if b then xs else xs ++ y ∷ []) ys) xs
     by true is = is
     by false is = starts-shorter xs (y ∷ []) (with_classes (xs ++ y ∷ []) ys) is
+
+-- what holds anyway holds on an error
+pub on-err : {A E P : Type 0} (r : Result A E) → P → OnErr r P
+on-err (Ok x) p = tt
+on-err (Err e) p = p
