@@ -1,6 +1,6 @@
 //! The names of the classes so far.
 
-ghost use Rattle.std.specs.Prelude.{◌≡◌, [], OnOk};
+ghost use Rattle.std.specs.Prelude.{◌≡◌, [], OnErr, OnOk};
 ghost use Rattle.std.specs.List.{list_any};
 ghost use Rattle.jvm_model.specs.Basis.Descriptors.{same_text};
 ghost use Rattle.admit_check.specs.Stages.{name_fault_among, with_name};
@@ -46,7 +46,8 @@ impl NameSet {
 
     /// Adds the name, if it is none of them.
     pub fn add(&mut self, alloc: Global, name: &Text16) -> Result<(), NoMemory>
-        ensures { OnOk result (self.new ≡ with_name self.old name.now) }
+        ensures added { OnOk result (self.new ≡ with_name self.old name.now) }
+        ensures kept { OnErr result (self.new ≡ self.old) }
     {
         let units = Vec::from_slice(alloc, name.units())?;
         self.names.insert(units)?;

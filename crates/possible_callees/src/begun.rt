@@ -1,6 +1,6 @@
 //! What an instruction can begin, over the classes that are loaded.
 
-ghost use Rattle.std.specs.Prelude.{◌≡◌, ◌<◌, ℕ, List, filter_map, length, true, OnOk, Some};
+ghost use Rattle.std.specs.Prelude.{◌≡◌, ◌<◌, ℕ, List, filter_map, length, true, OnErr, OnOk, Some};
 ghost use Rattle.std.specs.Option.{option_and_then, option_to_list};
 ghost use Rattle.jvm_model.specs.Instructions.InvocationRules.{Special};
 ghost use Rattle.jvm_model.specs.Classes.Load.{is_among};
@@ -43,7 +43,8 @@ struct NamedClass {
 
 /// Adds the number, if there is one.
 pub fn add_number(found: &mut Order, number: Option<u32>) -> Result<(), NoMemory>
-    ensures { OnOk result (found.new ≡ with_classes found.old (option_to_list number)) }
+    ensures added { OnOk result (found.new ≡ with_classes found.old (option_to_list number)) }
+    ensures kept { OnErr result (found.new ≡ found.old) }
 {
     match number {
         Some(number) => found.add(number),
