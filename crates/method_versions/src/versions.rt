@@ -1,6 +1,7 @@
 //! The table of versions.
 
 ghost use Rattle.std.specs.Prelude.{◌≡◌, ◌<◌, ◌+◌, ◌-◌, ◌≤◌, ◌++◌, ℕ, None, Some, is_some, length, true, slice_set, if◌then◌else◌, ◌==◌, ◌&&◌, filter, not, vec_capacity, vec_len, OnOk, option_copied};
+ghost use Rattle.std.specs.Prelude.{◌⊎◌, IsErr};
 ghost use Rattle.std.specs.List.{list_all};
 ghost use Rattle.frame_stack.specs.FrameLists.{pins_of};
 ghost use Rattle.slab.specs.Slab.{slab_len};
@@ -69,13 +70,19 @@ impl<T> Versions<T> {
         }
     }
 
-    /// Makes room for so many more versions. An Err says that memory ran out.
+    /// Makes room for so many more versions. An Err says that memory ran out: the room is as before or larger then, or
+    /// there is none, where numbers of versions would pass a u32.
     pub fn reserve(&mut self, more: usize) -> Result<(), NoMemory>
         ensures room { OnOk result (more ≤ self.new.spare) }
+        ensures spare { OnOk result (self.old.spare ≤ self.new.spare) }
+        ensures short { IsErr result → (self.old.spare ≤ self.new.spare) ⊎ (self.new.spare ≡ 0) }
         ensures slots { self.new.slots ≡ self.old.slots }
         ensures current { self.new.current ≡ self.old.current }
     {
-        if self.later.reserve(more).is_err() || self.superseded.reserve(more).is_err() {
+        if self.later.reserve(more).is_err() {
+            return Err(NoMemory);
+        }
+        if self.superseded.reserve(more).is_err() {
             return Err(NoMemory);
         }
         if self.first.len() > 4294967296 || self.later.capacity() > 4294967296 - self.first.len() {
@@ -133,6 +140,8 @@ fn put_at<T: Drop>(
         else held_in (first.old.items ++ later.old.slots) other) }
     ensures first { length first.new.items ≡ length first.old.items }
     ensures later { length later.new.slots ≡ length later.old.slots }
+    ensures capacity { later.new.capacity ≡ later.old.capacity }
+    ensures fewer { slab_len later.new ≤ slab_len later.old }
 {
     if number < first.len() {
         first[number] = Some(version);
@@ -229,6 +238,7 @@ impl<T: Drop> Versions<T> {
             ≡ held_anew number prepared self.old other }
         ensures current { self.new.current ≡ self.old.current }
         ensures count { length self.new.slots ≡ length self.old.slots }
+        ensures spare { self.old.spare ≤ self.new.spare }
     {
         let Some(held) = self.get(number) else {
             return;
