@@ -8,7 +8,7 @@ use crate::error::{Failed, FetchError};
 use crate::standard::{read_some, write_whole};
 use crate::streams::{Files, Sink};
 use std::alloc::Global;
-use std::fs::File;
+use std::fs::{File, OpenFile};
 use std::io::Read;
 use std::marker::Model;
 use std::rt;
@@ -63,7 +63,8 @@ impl<R: rt::Files> DiskFiles<R> {
         }
     }
 
-    /// Opens a file and reads it.
+    /// Opens a file and reads it. It is closed before anything is taken or put, so it may have the number of a stream
+    /// that was closed at the start.
     fn read(&self, alloc: Global, name: &str, most: usize) -> Result<Vec<u8>, FetchError>
         ensures within { IfOk result (λ bytes. vec_len bytes ≤ most + 1) }
     {
@@ -133,6 +134,16 @@ impl<R: rt::Files> LateFile<R> {
         }
     }
 
+    /// Makes the file, under a descriptor that none of the three streams has. Where a stream was closed at the start, a
+    /// file that is opened takes its number, and what is put to the stream would go into the file. A second handle
+    /// never takes such a number, and the first is given back before anything is put.
+    fn make(&self) -> Result<R::File, Failed> {
+        let Ok(made) = File::create(&self.files, self.name.as_str()) else {
+            return Err(Failed);
+        };
+        made.try_clone().map_err(|_| Failed)
+    }
+
     /// Makes the file where it is not made yet, and writes to it.
     fn write(&mut self, bytes: &[u8]) -> Result<(), Failed>
         ensures stays { self.new.faults ≡ self.old.faults }
@@ -143,14 +154,10 @@ impl<R: rt::Files> LateFile<R> {
         if let Some(file) = &mut self.file {
             return write_whole(file, bytes);
         }
-        match File::create(&self.files, self.name.as_str()) {
-            Ok(mut file) => {
-                let answer = write_whole(&mut file, bytes);
-                self.file = Some(file);
-                answer
-            }
-            Err(_) => Err(Failed),
-        }
+        let mut file = self.make()?;
+        let answer = write_whole(&mut file, bytes);
+        self.file = Some(file);
+        answer
     }
 }
 
