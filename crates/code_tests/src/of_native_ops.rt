@@ -4,11 +4,12 @@ ghost use Rattle.std.specs.Prelude.{◌≡◌};
 
 use base_classes::native_of;
 use heap_objects::{Datum, Heap, HeapError};
-use jf_bytes::{Seq, Text16, from_utf8};
+use jf_bytes::{Seq, Text16};
 use native_effects::{Kinds, Made, Native};
 use native_ops::{Invocation, call};
 use std::alloc::Global;
 use tables::{Row, boxes, builders, others, strings};
+use text_coding::from_utf8;
 
 mod tables;
 

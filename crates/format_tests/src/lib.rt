@@ -3,6 +3,8 @@
 #![tactic(auto)]
 
 #[cfg(test)]
+mod of_byte_streams;
+#[cfg(test)]
 mod of_class_reader;
 #[cfg(test)]
 mod of_class_writer;
@@ -13,12 +15,10 @@ mod of_const_pool;
 #[cfg(test)]
 mod of_int_ops;
 #[cfg(test)]
-mod of_jf_bytes;
-#[cfg(test)]
-mod of_jf_bytes_texts;
-#[cfg(test)]
 mod of_op_table;
 #[cfg(test)]
 mod of_plan_text;
 #[cfg(test)]
 mod of_program_gen;
+#[cfg(test)]
+mod of_text_coding;

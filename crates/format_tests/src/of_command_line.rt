@@ -1,10 +1,11 @@
 //! Words, by hand.
 
 use command_line::{Words, WordsError, command_of, read_words, texts_of};
-use jf_bytes::{Seq, to_utf8};
+use jf_bytes::Seq;
 use plan_text::read_plan;
 use std::alloc::Global;
 use std::test::*;
+use text_coding::to_utf8;
 
 /// The words of a line, and then a file so many times.
 fn words_of(alloc: Global, line: &str, files: usize) -> Result<Vec<Seq<u8>>, Fail> {

@@ -1,9 +1,10 @@
 //! Words for roots, and texts of plans, by hand.
 
-use jf_bytes::{Text16, to_utf8};
+use jf_bytes::Text16;
 use plan_text::{LineCause, Plan, PlanError, plan_of_root, read_plan};
 use std::alloc::Global;
 use std::test::*;
+use text_coding::to_utf8;
 
 /// Whether a word selects this method at moment 0; Err where there is no memory.
 fn selects(alloc: Global, word: &str, names: (&[u8], &[u8], &[u8])) -> Result<bool, Fail> {

@@ -6,7 +6,8 @@ ghost use Rattle.jfluid_cli.specs.declared.kept.Kept.{Kept};
 
 use crate::devices::Devices;
 use crate::top::jfluid;
-use jf_bytes::{Files, NoMemory, Seq, Sink, Source};
+use byte_streams::{Files, Sink, Source};
+use jf_bytes::{NoMemory, Seq};
 use std::alloc::Global;
 
 /// Does what the words say as `jfluid` does, and answers the exit status. What was run is dropped here: a program that
