@@ -4,7 +4,7 @@
 use byte_streams::{DiskFiles, LateFile, StdSink, StdSource};
 use command_line::{SystemWords, raw_words};
 use jf_bytes::NoMemory;
-use jfluid_cli::{Devices, jfluid};
+use jfluid_cli::{Devices, exit_status};
 use std::process::ExitCode;
 
 /// Gives the real words, files and streams to the top call. The report goes to standard error. Where there
@@ -24,5 +24,5 @@ fn main(rt: HostRuntime) -> ExitCode {
         report: StdSink::new(rt.stderr()),
         images: LateFile::new(&rt, images),
     };
-    ExitCode::from(jfluid(rt.alloc(), words, &mut devices, &mut None))
+    ExitCode::from(exit_status(rt.alloc(), words, &mut devices))
 }

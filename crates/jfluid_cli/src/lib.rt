@@ -12,9 +12,11 @@ mod plans;
 mod refusal;
 mod reporting;
 mod running;
+mod status;
 mod top;
 mod words;
 
 pub use devices::Devices;
 pub use kept::Kept;
+pub use status::exit_status;
 pub use top::jfluid;

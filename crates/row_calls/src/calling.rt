@@ -6,7 +6,7 @@ ghost use Rattle.row_calls.specs.Calls.{IsAnswerTo};
 use crate::given::{Device, Failure, NamedFile, RowInput};
 use byte_streams::{MemFiles, MemSink, MemSource};
 use jf_bytes::{NoMemory, Seq};
-use jfluid_cli::{Devices, jfluid};
+use jfluid_cli::{Devices, exit_status};
 use std::alloc::{AllocError, Global};
 
 /// What came of a row.
@@ -87,7 +87,7 @@ fn objects_of(alloc: Global, given: RowInput) -> Result<Objects, NoMemory>
 fn call(alloc: Global, words: Seq<Seq<u8>>, devices: &mut MemDevices) -> u8
     ensures { IsAnswerTo words result }
 {
-    jfluid(alloc, Ok(words), devices, &mut None)
+    exit_status(alloc, Ok(words), devices)
 }
 
 /// What the top call makes of its objects.

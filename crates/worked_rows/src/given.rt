@@ -13,35 +13,29 @@ use jf_bytes::Seq;
 use row_calls::{Device, Failure, NamedFile, RowInput};
 use std::alloc::{AllocError, Global};
 
+/// What a file or the input has.
+#[derive(Clone, Copy)]
+enum Contents<'a> {
+    /// What the file at this path has.
+    Whole(&'a str),
+    /// A front of what the file at this path has.
+    Front(&'a str),
+    /// What the file at this path has, with zeros behind it up to this length.
+    Padded(&'a str, usize),
+    /// That many zeros.
+    Zeros(usize),
+}
+
 /// A line of the file `given`.
 #[derive(Clone, Copy)]
 enum Line<'a> {
-    /// `file NAME PATH`: the file NAME has what the file at this path has.
+    /// `file NAME PATH`, `front NAME PATH`, `padded NAME PATH LENGTH`, `zeros NAME COUNT`: what the file NAME has.
     File {
         name: &'a str,
-        path: &'a str,
+        contents: Contents<'a>,
     },
-    /// `zeros NAME COUNT`: the file NAME is that many zeros.
-    Zeros {
-        name: &'a str,
-        count: usize,
-    },
-    /// `padded NAME PATH LENGTH`: the file NAME has what the file at this path has, with zeros behind it up to this
-    /// length.
-    Padded {
-        name: &'a str,
-        path: &'a str,
-        length: usize,
-    },
-    /// `front NAME PATH`: the file NAME is a front of what the file at this path has.
-    Front {
-        name: &'a str,
-        path: &'a str,
-    },
-    /// `input PATH`: the input is what the file at this path has.
-    Input(&'a str),
-    /// `input_zeros COUNT`: the input is that many zeros.
-    InputZeros(usize),
+    /// `input PATH`, `input_zeros COUNT`: what the input has.
+    Input(Contents<'a>),
     /// `fails DEVICE CALL`
     Fails(Failure),
 }
@@ -57,48 +51,67 @@ fn device_of(word: &str) -> Option<Device> {
     }
 }
 
-/// What a line of the file `given` says behind its word `padded`.
-fn line_padded(rest: &str) -> Option<Line<'_>> {
-    let (name, rest) = rest.split_once(' ')?;
-    let (path, length) = rest.split_once(' ')?;
-    let length = length.parse::<usize>().ok()?;
-    Some(Line::Padded { name, path, length })
+/// What the contents of a file are, by the word of its line and what stands behind the file's name.
+fn contents_of<'a>(word: &str, rest: &'a str) -> Option<Contents<'a>> {
+    match word {
+        "file" => Some(Contents::Whole(rest)),
+        "front" => Some(Contents::Front(rest)),
+        "padded" => {
+            let (path, length) = rest.split_once(' ')?;
+            Some(Contents::Padded(path, number(length)?))
+        }
+        "zeros" => Some(Contents::Zeros(number(rest)?)),
+        _ => None,
+    }
+}
+
+fn number(text: &str) -> Option<usize> {
+    text.parse::<usize>().ok()
 }
 
 /// What a line of the file `given` says.
 fn line_of(text: &str) -> Option<Line<'_>> {
     let (word, rest) = text.split_once(' ')?;
     match word {
-        "file" => {
-            let (name, path) = rest.split_once(' ')?;
-            Some(Line::File { name, path })
-        }
-        "zeros" => {
-            let (name, count) = rest.split_once(' ')?;
-            let count = count.parse::<usize>().ok()?;
-            Some(Line::Zeros { name, count })
-        }
-        "padded" => line_padded(rest),
-        "front" => {
-            let (name, path) = rest.split_once(' ')?;
-            Some(Line::Front { name, path })
-        }
-        "input" => Some(Line::Input(rest)),
-        "input_zeros" => Some(Line::InputZeros(rest.parse::<usize>().ok()?)),
+        "input" => Some(Line::Input(Contents::Whole(rest))),
+        "input_zeros" => Some(Line::Input(Contents::Zeros(number(rest)?))),
         "fails" => {
             let (device, call) = rest.split_once(' ')?;
             let device = device_of(device)?;
             let call = call.parse::<u64>().ok()?;
             Some(Line::Fails(Failure { device, call }))
         }
-        _ => None,
+        _ => {
+            let (name, rest) = rest.split_once(' ')?;
+            let contents = contents_of(word, rest)?;
+            Some(Line::File { name, contents })
+        }
     }
 }
 
-fn zeros(alloc: Global, count: usize) -> Result<Vec<u8>, AllocError> {
-    let mut bytes = Vec::new(alloc);
-    bytes.resize(count, 0)?;
-    Ok(bytes)
+/// The bytes of a file or of the input. A front has so many bytes.
+fn bytes_of<F: Files>(
+    alloc: Global,
+    contents: Contents<'_>,
+    front: usize,
+    files: &mut F,
+) -> Result<Vec<u8>, RowError>
+    ensures stay { F.contents files.new ≡ F.contents files.old }
+{
+    match contents {
+        Contents::Whole(path) => fetch_file(alloc, path, files),
+        Contents::Front(path) => {
+            let mut bytes = fetch_file(alloc, path, files)?;
+            bytes.truncate(front);
+            Ok(bytes)
+        }
+        Contents::Padded(path, length) => {
+            let mut bytes = fetch_file(alloc, path, files)?;
+            bytes.resize(length, 0)?;
+            Ok(bytes)
+        }
+        Contents::Zeros(count) => Ok(vec![in alloc; 0; count]?),
+    }
 }
 
 /// Adds what a line says to what is given so far. A front has so many bytes.
@@ -116,30 +129,12 @@ fn take_line<F: Files>(
         return Err(RowError::Unknown(String::from_str(alloc, text)?));
     };
     match line {
-        Line::File { name, path } => {
-            let contents = fetch_file(alloc, path, files)?;
+        Line::File { name, contents } => {
+            let contents = bytes_of(alloc, contents, front, files)?;
             let name = String::from_str(alloc, name)?;
             given.files.push(NamedFile { name, contents })?;
         }
-        Line::Zeros { name, count } => {
-            let contents = zeros(alloc, count)?;
-            let name = String::from_str(alloc, name)?;
-            given.files.push(NamedFile { name, contents })?;
-        }
-        Line::Padded { name, path, length } => {
-            let mut contents = fetch_file(alloc, path, files)?;
-            contents.resize(length, 0)?;
-            let name = String::from_str(alloc, name)?;
-            given.files.push(NamedFile { name, contents })?;
-        }
-        Line::Front { name, path } => {
-            let mut contents = fetch_file(alloc, path, files)?;
-            contents.truncate(front);
-            let name = String::from_str(alloc, name)?;
-            given.files.push(NamedFile { name, contents })?;
-        }
-        Line::Input(path) => given.input = fetch_file(alloc, path, files)?,
-        Line::InputZeros(count) => given.input = zeros(alloc, count)?,
+        Line::Input(contents) => given.input = bytes_of(alloc, contents, front, files)?,
         Line::Fails(failure) => given.failures.push(failure)?,
     }
     Ok(())
