@@ -23,5 +23,3 @@ pub use moving::{
 };
 pub use reading::{int_of, recall, ref_of};
 
-#[cfg(test)]
-mod tests;
