@@ -1,9 +1,7 @@
-//! Programs of small classes and the built-in ones: what loads, where members are found, which methods are selected;
-//! and what becomes of a linker where memory runs out.
+//! Programs of small classes and the built-in ones: where members are found, which methods are selected, and what loads,
+//! also where memory runs out. Programs at the corners of the rules are rows of worked_rows (vectors).
 
 mod classes;
-mod corner_files;
-mod corners;
 mod loads;
 mod lookups;
 mod selections;

@@ -22,4 +22,3 @@ pub use moving::{
     drop_narrow, drop_one, drop_three, drop_two, exchange_two, go_on, put, replace, replace_two,
 };
 pub use reading::{int_of, recall, ref_of};
-

@@ -156,51 +156,6 @@ fn classes_of(alloc: Global, shapes: &[Shape]) -> Option<Vec<ClassFile>>
     Some(classes)
 }
 
-// ---- class files in hexadecimal
-
-/// What a digit stands for; nothing else is asked.
-fn digit(character: u8) -> u8 {
-    if character < 97 {
-        character & 15
-    } else {
-        (character & 15).saturating_add(9)
-    }
-}
-
-/// The bytes that are spelled by two digits each.
-fn bytes_in(alloc: Global, digits: &str) -> Result<Vec<u8>, NoMemory> {
-    let mut bytes = Vec::new(alloc);
-    let mut high: Option<u8> = None;
-    for character in digits.as_bytes() {
-        high = match high {
-            None => Some(digit(*character)),
-            Some(first) => {
-                bytes.push(first << 4 | digit(*character))?;
-                None
-            }
-        };
-    }
-    Ok(bytes)
-}
-
-fn class_in(alloc: Global, digits: &str) -> Option<ClassFile>
-    ensures { IfSome result IsClassFile }
-{
-    let bytes = bytes_in(alloc, digits).ok()?;
-    read_class(alloc, bytes.as_slice()).ok()
-}
-
-#[tactic(auto, using(crate::proofs::Lists::all_more))]
-fn classes_in(alloc: Global, files: &[&str]) -> Option<Vec<ClassFile>>
-    ensures { IfSome result (λ classes. AllByRecursion IsClassFile classes.items) }
-{
-    let mut classes = Vec::new(alloc);
-    for digits in files {
-        classes.push(class_in(alloc, digits)?).ok()?;
-    }
-    Some(classes)
-}
-
 // ---- a linker
 
 /// The classes, and the built-in ones behind them.
@@ -240,22 +195,9 @@ pub(super) fn shaped_program(alloc: Global, shapes: &[Shape]) -> Option<Program>
     program_of(alloc, classes_of(alloc, shapes)?)
 }
 
-/// A program of the classes of these files and the built-in ones.
-fn read_program(alloc: Global, files: &[&str]) -> Option<Program>
-    ensures { IfSome result IsLinkable }
-{
-    program_of(alloc, classes_in(alloc, files)?)
-}
-
 /// A linker for these classes and the built-in ones.
 pub(super) fn linker_of(alloc: Global, shapes: &[Shape]) -> Result<Linker, Fail> {
     let program = shaped_program(alloc, shapes).ok_or("a program")?;
-    Ok(Linker::new(alloc, program)?)
-}
-
-/// A linker for the classes of these files and the built-in ones.
-pub(super) fn linker_over(alloc: Global, files: &[&str]) -> Result<Linker, Fail> {
-    let program = read_program(alloc, files).ok_or("class files")?;
     Ok(Linker::new(alloc, program)?)
 }
 

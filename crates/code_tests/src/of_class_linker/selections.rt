@@ -259,12 +259,7 @@ fn is_known(linker: &Linker, kind: u32) -> bool
 }
 
 /// Whether what has the one name's kind also has the other's; None where that is not known.
-pub(super) fn subtype(
-    alloc: Global,
-    linker: &mut Linker,
-    below: &str,
-    above: &str,
-) -> Option<bool> {
+fn subtype(alloc: Global, linker: &mut Linker, below: &str, above: &str) -> Option<bool> {
     let lower = kind_of(alloc, linker, below)?;
     let upper = kind_of(alloc, linker, above)?;
     if !is_known(linker, lower) {
