@@ -4,7 +4,7 @@ use Rattle.std.specs.Prelude.{IsSomeAnd}
 use Rattle.std.specs.Option.{option_map}
 use Rattle.std.proofs.lemmas.Bool.{cases_lt}
 use Rattle.std.proofs.lemmas.List.{length-take, take_all}
-use Rattle.jf_bytes.specs.Streams.{Told, contents_at, IsFetched, IsToldAs, HasTold}
+use Rattle.byte_streams.specs.Streams.{Told, contents_at, IsFetched, IsToldAs, HasTold}
 use Rattle.class_reader.specs.declared.error.ReadError.{ReadError}
 use Rattle.class_reader.specs.Files.{IsFirstFault, most_bytes}
 use Rattle.class_copy.specs.declared.copying.CopyError.{CopyError}

@@ -1,6 +1,6 @@
 -- When a class file is copied, what was put of it, and how a refusal is told.
 use Rattle.std.specs.Prelude.{ℕ, List, Option, Result, Ok, Err, codes}
-use Rattle.jf_bytes.specs.Streams.{Told, IsToldAs, HasTold}
+use Rattle.byte_streams.specs.Streams.{Told, IsToldAs, HasTold}
 use Rattle.const_pool.specs.declared.class.ClassFile.{ClassFile}
 use Rattle.class_reader.specs.Files.{IsFile, IsFirstFault}
 use Rattle.class_copy.specs.declared.copying.CopyError.{CopyError}

@@ -1,14 +1,14 @@
 //! One class file, from its bytes to its class and back.
 
 ghost use Rattle.std.specs.Prelude.{◌≡◌, ◌≢◌, ◌⊎◌, Err, IfOk, IfErr, OnOk};
-ghost use Rattle.jf_bytes.specs.Streams.{Rose, PutsAll, PutsPrefix, IsFetched};
+ghost use Rattle.byte_streams.specs.Streams.{Rose, PutsAll, PutsPrefix, IsFetched};
 ghost use Rattle.class_reader.specs.declared.error.ReadError.{ReadError as Fault};
 ghost use Rattle.class_reader.specs.Files.{IsFirstFault, most_bytes};
 ghost use Rattle.class_copy.specs.Copies.{IsSomeFile, IsFileTold, PutsFile, IsAnswer};
 
+use byte_streams::{FetchError, Files, Sink};
 use class_reader::{MOST_BYTES, ReadError, read_class};
 use class_writer::write_class;
-use jf_bytes::{FetchError, Files, Sink};
 use std::alloc::Global;
 
 /// Why a file is not copied.

@@ -7,8 +7,8 @@ mod copying;
 ghost use Rattle.std.specs.Prelude.{◌≡◌};
 ghost use Rattle.class_copy.specs.Copies.{reason_of};
 
+use byte_streams::{DiskFiles, StdSink};
 use copying::{CopyError, copy_file};
-use jf_bytes::{DiskFiles, StdSink};
 use std::process::ExitCode;
 use std::{env, io};
 

@@ -1,7 +1,7 @@
 -- What was put is the image that the words ask for.
 use Rattle.std.proofs.Common.{◌≡◌, ℕ, List, Option, Some, Result, Ok, Err, sym, subst}
 use Rattle.std.specs.Prelude.{OnOk}
-use Rattle.jf_bytes.specs.Streams.{Told}
+use Rattle.byte_streams.specs.Streams.{Told}
 use Rattle.jvm_model.specs.declared.event.Mark.{Mark}
 use Rattle.class_image.specs.Words.{first_said, marks_said}
 use Rattle.class_image.specs.Imaging.{HasImage, PutsImage}

@@ -1,6 +1,6 @@
 -- When a class file is rewritten, what was put of its image, and how a refusal is told.
 use Rattle.std.specs.Prelude.{◌≡◌, ◌≢◌, ◌⊎◌, ℕ, List, [], length, Option, Some, None, codes}
-use Rattle.jf_bytes.specs.Streams.{Told, IsFetched}
+use Rattle.byte_streams.specs.Streams.{Told, IsFetched}
 use Rattle.const_pool.specs.declared.class.ClassFile.{ClassFile}
 use Rattle.const_pool.specs.ClassFile.{class_bytes}
 use Rattle.class_reader.specs.declared.error.ReadError.{ReadError}

@@ -1,19 +1,19 @@
 //! One class file, from its bytes to those of its image.
 
 ghost use Rattle.std.specs.Prelude.{◌≡◌, ◌≢◌, ◌≤◌, ◌⊎◌, None, Err, IfOk, IfErr, OnOk};
-ghost use Rattle.jf_bytes.specs.Streams.{Rose, PutsAll, PutsPrefix, IsFetched};
+ghost use Rattle.byte_streams.specs.Streams.{Rose, PutsAll, PutsPrefix, IsFetched};
 ghost use Rattle.class_reader.specs.Files.{most_bytes};
 ghost use Rattle.inject_events.specs.Answers.{IsProfilable, IsReadableClass};
 ghost use Rattle.class_image.specs.Imaging.{IsAdmittedFile, IsImageOf, IsClassRefusal, IsRefusal, HasImage, IsFileRefusal, PutsImage, IsTold};
 
 use crate::words::{first_of, marks_of};
 use admit_check::admit_class;
+use byte_streams::{FetchError, Files, Sink};
 use class_reader::{MOST_BYTES, ReadError, read_class};
 use class_writer::write_fitting;
 use code_admission::AdmitError;
 use const_pool::ClassFile;
 use inject_events::{InjectError, instrument, marked_have_code};
-use jf_bytes::{FetchError, Files, Sink};
 use jvm_model::Mark;
 use std::alloc::Global;
 

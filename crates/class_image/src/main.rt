@@ -9,8 +9,8 @@ mod words;
 ghost use Rattle.std.specs.Prelude.{◌≡◌};
 ghost use Rattle.class_image.specs.Imaging.{reason_of};
 
+use byte_streams::{DiskFiles, StdSink};
 use imaging::{ImageError, image_file};
-use jf_bytes::{DiskFiles, StdSink};
 use std::process::ExitCode;
 use std::{env, io};
 

@@ -4,7 +4,7 @@ use Rattle.std.specs.Int.{w8, w16, w32, w64, to_be_bytes, cast_signed, cast_unsi
 use Rattle.std.proofs.lemmas.Bool.{and_parts, and_from, eqb-true}
 use Rattle.std.proofs.lemmas.Int.{to_z-of_z, of_z-to_z}
 use Rattle.jf_bytes.specs.ModifiedUtf8.{modified_utf8}
-use Rattle.jf_bytes.specs.Spelling.{IsUnits}
+use Rattle.text_coding.specs.Spelling.{IsUnits}
 use Rattle.const_pool.specs.declared.pool.Const.{Const}
 use Rattle.const_pool.specs.declared.pool.Const.TheVariants.{Gap, Utf8, Integer, Float, Long, Double, Class, Text, Field, Method, InterfaceMethod, NameType}
 use Rattle.const_pool.specs.Pool.{u1, u2, u4, u8, IsEntry, entry_bytes}

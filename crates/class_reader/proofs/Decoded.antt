@@ -3,10 +3,10 @@ use Rattle.std.proofs.Common.{◌≡◌, ℕ, zero, suc, ◌+◌, ◌*◌, ◌%�
 use Rattle.std.proofs.lemmas.Bool.{cond_both, and_parts, and_from, leb-true, le-leb, eqb-true, eqb-false, both_ways}
 use Rattle.std.proofs.lemmas.List.{take-append-drop}
 use Rattle.jf_bytes.specs.ModifiedUtf8.{unit_bytes}
-use Rattle.jf_bytes.specs.Spelling.{IsSpelling, IsFirstBad, BeginsWith, IsDoubleLead, IsTripleLead}
-use Rattle.jf_bytes.proofs.UnitLemmas.{unit_bytes-one, unit_bytes-some, double_spelled, triple_spelled}
-use Rattle.jf_bytes.proofs.FrontLemmas.{bad_first, no_begin, double_bad, triple_bad, tail_bad}
-use Rattle.jf_bytes.proofs.SpellingLemmas.{IsSpelling-append, spelling_same, first_bad-behind, first_bad-one}
+use Rattle.text_coding.specs.Spelling.{IsSpelling, IsFirstBad, BeginsWith, IsDoubleLead, IsTripleLead}
+use Rattle.text_coding.proofs.UnitLemmas.{unit_bytes-one, unit_bytes-some, double_spelled, triple_spelled}
+use Rattle.text_coding.proofs.FrontLemmas.{bad_first, no_begin, double_bad, triple_bad, tail_bad}
+use Rattle.text_coding.proofs.SpellingLemmas.{IsSpelling-append, spelling_same, first_bad-behind, first_bad-one}
 use Rattle.class_reader.specs.Decoding.{is_between, double_unit, triple_unit, front_unit, after_unit, then_decoded, decoded_from, text_decoded}
 
 between-true : (least byte most : ℕ) → is_between least byte most ≡ true → (least ≤ byte) × (byte ≤ most)

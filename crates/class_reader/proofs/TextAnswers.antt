@@ -1,6 +1,6 @@
 -- Texts that were decoded.
 use Rattle.std.proofs.Common.{◌≡◌, ℕ, List, Result, Ok, Err, IfOk}
-use Rattle.jf_bytes.specs.Spelling.{IsSpelling}
+use Rattle.text_coding.specs.Spelling.{IsSpelling}
 use Rattle.class_reader.specs.Decoding.{text_decoded}
 use Rattle.class_reader.proofs.Decoded.{spelling-decoded}
 

@@ -1,7 +1,7 @@
 -- Reading texts in modified UTF-8.
 use Rattle.std.proofs.Common.{◌≡◌, ℕ, ◌⊎◌, inl, inr, List, ◌++◌, length, take, drop, Result, Ok, Err, refl, sym, ap, subst, ◌∙◌, arith}
 use Rattle.std.proofs.lemmas.List.{take-append-drop, length-take}
-use Rattle.jf_bytes.specs.Spelling.{IsSpelling, IsFirstBad}
+use Rattle.text_coding.specs.Spelling.{IsSpelling, IsFirstBad}
 use Rattle.class_reader.specs.declared.error.ReadError.{ReadError}
 use Rattle.class_reader.specs.declared.error.ReadError.TheVariants.{BadUtf8}
 use Rattle.class_reader.specs.Decoding.{text_decoded}

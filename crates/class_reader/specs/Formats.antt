@@ -4,7 +4,7 @@
 use Rattle.std.specs.Prelude.{◌≡◌, ℕ, ◌*◌, ◌^◌, ◌<◌, ◌≤◌, ◌⊎◌, List, ◌++◌, length, take, drop}
 use Rattle.std.specs.List.{AllByRecursion}
 use Rattle.std.specs.Int.{Width, w32, byte_len, to_be_bytes}
-use Rattle.jf_bytes.specs.Spelling.{IsSpelling, IsFirstBad}
+use Rattle.text_coding.specs.Spelling.{IsSpelling, IsFirstBad}
 use Rattle.const_pool.specs.ClassFile.{IsByte}
 use Rattle.byte_formats.specs.Formats as formats
 pub use Rattle.byte_formats.specs.Formats.{place, value_made, AreInTurn, FaultsBehind, in_turn, many, IsConverted, IsRefused, value_converted, kept_where, value_tested, either}

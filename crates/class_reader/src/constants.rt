@@ -9,8 +9,9 @@ use crate::numbers::{run_of, u8_of, u16_of, u32_of, u64_of};
 use crate::tags::{Tag, find_tag};
 use byte_formats::place_of;
 use const_pool::Const;
-use jf_bytes::{Text16, TextError, from_modified};
+use jf_bytes::Text16;
 use std::alloc::Global;
+use text_coding::{TextError, from_modified};
 
 /// A tag.
 #[tactic(auto, unfolding(crate::specs::Reading::tag_at))]

@@ -9,8 +9,9 @@ ghost use Rattle.class_writer.specs.Parts.{bytes_at, text_bytes};
 
 use crate::numbers::{push_u8, push_u16, push_u32, push_u64};
 use const_pool::{Const, Pool};
-use jf_bytes::{NoMemory, Text16, to_modified};
+use jf_bytes::{NoMemory, Text16};
 use std::alloc::Global;
+use text_coding::to_modified;
 
 // The tags (JVM Specification 4.4, table 4.4-A).
 const UTF8: u8 = 1;

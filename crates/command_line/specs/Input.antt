@@ -1,7 +1,7 @@
 -- The input of a run: all that a source has left.
 use Rattle.std.specs.Prelude.{◌≡◌, ◌<◌, ◌≤◌, ◌+◌, ℕ, List, length, Option, Result, Ok, Err, IfErr, IfSome, OnOk}
 use Rattle.std.specs.Io.KnownBytes.{Consumes, IsAtEnd}
-use Rattle.jf_bytes.specs.Streams.{Rose}
+use Rattle.byte_streams.specs.Streams.{Rose}
 use Rattle.command_line.specs.declared.input.InputError.{InputError}
 use Rattle.command_line.specs.declared.input.InputError.TheVariants.{Failed, TooLong, NoMemory}
 

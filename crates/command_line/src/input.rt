@@ -2,11 +2,12 @@
 
 ghost use Rattle.std.specs.Prelude.{◌≡◌, ◌<◌, ◌≤◌, length, take, IfOk, OnErr};
 ghost use Rattle.std.specs.Io.KnownBytes.{Consumes, IsAtEnd};
-ghost use Rattle.jf_bytes.specs.Streams.{HasCause};
+ghost use Rattle.byte_streams.specs.Streams.{HasCause};
 ghost use Rattle.command_line.specs.Input.{InputCause, IsInput, TakesInput};
 ghost use Rattle.command_line.specs.declared.input.InputError.TheVariants.{Failed as take_failed, NoMemory as out_of_memory};
 
-use jf_bytes::{Failed, Seq, Source};
+use byte_streams::{Failed, Source};
+use jf_bytes::Seq;
 use std::alloc::{AllocError, Global};
 use thiserror::Error;
 

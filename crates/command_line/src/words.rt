@@ -20,10 +20,11 @@ ghost use Rattle.command_line.specs.declared.words.WordsError.TheVariants.{NoMem
 use crate::described::command_described;
 use clap::error::ErrorKind;
 use clap::{ArgMatches, Error as ClapError};
-use jf_bytes::{NoMemory, Text16, from_utf8};
+use jf_bytes::{NoMemory, Text16};
 use plan_text::{name_slashed, number_of};
 use std::alloc::{AllocError, AllocFailed, Global};
 use std::convert::AsStr;
+use text_coding::from_utf8;
 use thiserror::Error;
 
 /// So many files a command may have.

@@ -1,7 +1,7 @@
 -- A source in memory that gives two bytes at a time, and whose second take fails.
 use Rattle.std.proofs.Common.{◌≡◌, ℕ, Bool, true, false, List, [], ◌∷◌, refl}
-use Rattle.jf_bytes.specs.Calls.{first_calls, is_failing}
-use Rattle.jf_bytes.specs.Memory.{SourceView, take_count, after_take}
+use Rattle.byte_streams.specs.Calls.{first_calls, is_failing}
+use Rattle.byte_streams.specs.Memory.{SourceView, take_count, after_take}
 
 abbrev source : SourceView
 source = record { left = 1 ∷ 2 ∷ 3 ∷ 4 ∷ 5 ∷ []; calls = first_calls (2 ∷ []) }

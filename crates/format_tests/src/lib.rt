@@ -3,8 +3,8 @@
 #![tactic(auto)]
 
 #[cfg(test)]
-mod of_class_reader;
+mod of_byte_streams;
 #[cfg(test)]
-mod of_jf_bytes;
+mod of_class_reader;
 #[cfg(test)]
 mod of_program_gen;

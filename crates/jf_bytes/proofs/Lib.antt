@@ -1,11 +1,4 @@
 pub mod Reversed
-pub mod AdapterLemmas
-pub mod FilesLemmas
-pub mod StreamLemmas
-pub mod UnitLemmas
-pub mod SpellingLemmas
-pub mod FrontLemmas
-pub mod UnicodeLemmas
 pub mod TextRow
 pub mod Lists
 pub mod Options

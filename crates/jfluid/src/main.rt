@@ -1,8 +1,9 @@
 //! jfluid: runs class files and reports on their run.
 #![tactic(auto)]
 
+use byte_streams::{DiskFiles, LateFile, StdSink, StdSource};
 use command_line::{SystemWords, raw_words};
-use jf_bytes::{DiskFiles, LateFile, NoMemory, StdSink, StdSource};
+use jf_bytes::NoMemory;
 use jfluid_cli::{Devices, jfluid};
 use std::process::ExitCode;
 

@@ -1,6 +1,6 @@
 -- The plan of accepted words, and what a command asks of a program.
 use Rattle.std.specs.Prelude.{◌≡◌, ◌≢◌, ℕ, ◌⊎◌, List, Option, Some, None, Result, Ok, Err}
-use Rattle.jf_bytes.specs.Streams.{Told, IsToldAs}
+use Rattle.byte_streams.specs.Streams.{Told, IsToldAs}
 use Rattle.plan_text.specs.declared.plan.Plan.{Plan}
 use Rattle.plan_text.specs.declared.plan.PlanError.{PlanError}
 use Rattle.plan_text.specs.declared.plan.PlanError.TheVariants.{NoMemory}

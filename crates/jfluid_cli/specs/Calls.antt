@@ -2,7 +2,7 @@
 use Rattle.std.specs.Prelude.{◌≡◌, ◌≢◌, ℕ, ◌⊎◌, Bool, true, false, List, Option, Some, None, Result, slice_get, IfSome, IsErr, IsSome, IsSomeAnd}
 use Rattle.jf_bytes.specs.declared.error.NoMemory.{NoMemory}
 use Rattle.std.specs.Io.KnownBytes.{IsAtEnd}
-use Rattle.jf_bytes.specs.Streams.{PutsAll, PutsPrefix, Rose}
+use Rattle.byte_streams.specs.Streams.{PutsAll, PutsPrefix, Rose}
 use Rattle.command_line.specs.Input.{TakesAtMost, TakesOneMore, most_input, most_taken}
 use Rattle.jvm_model.specs.declared.program.Program.{Program}
 use Rattle.jvm_model.specs.Running.Run.{ending_of}

@@ -1,6 +1,6 @@
 -- What a call is given, when it is accepted, and the cause of each refusal.
 use Rattle.std.specs.Prelude.{◌≡◌, ◌<◌, ◌≤◌, ℕ, ◌⊎◌, List, length, take, Option, Some, None, Ok, slice_get, IfSome, IsSome}
-use Rattle.jf_bytes.specs.Streams.{Told}
+use Rattle.byte_streams.specs.Streams.{Told}
 use Rattle.jvm_model.specs.declared.program.Program.{Program}
 use Rattle.command_line.specs.Input.{most_input}
 use Rattle.command_line.specs.Words.{Read}

@@ -2,7 +2,7 @@
 -- and the classes that they spell.
 use Rattle.std.specs.Prelude.{◌≡◌, ℕ, List, [], length, take, Option, Some, None, slice_get, unwrap_or}
 use Rattle.std.specs.List.{AllZip}
-use Rattle.jf_bytes.specs.Streams.{Told, IsFetched, IsToldAs}
+use Rattle.byte_streams.specs.Streams.{Told, IsFetched, IsToldAs}
 use Rattle.const_pool.specs.declared.class.ClassFile.{ClassFile}
 use Rattle.class_reader.specs.declared.error.ReadError.{ReadError}
 use Rattle.class_reader.specs.Files.{IsFile, IsFirstFault, most_bytes}

@@ -2,7 +2,7 @@
 use Rattle.std.specs.Prelude.{◌≡◌, ℕ, ◌++◌, Bool, List, [], length, Result, Ok, Err, if◌then◌else◌}
 use Rattle.std.specs.List.{flat_map}
 use Rattle.const_pool.specs.Pool.{u4, u8}
-use Rattle.jf_bytes.specs.Streams.{PutsAll, PutsPrefix, Rose}
+use Rattle.byte_streams.specs.Streams.{PutsAll, PutsPrefix, Rose}
 use Rattle.profile_session.specs.declared.swap.Swap.{Swap}
 use Rattle.profile_session.specs.Sessions.{AreSwapsOf, Profiling, entries_of, swaps_of}
 use Rattle.jfluid_cli.specs.declared.images.Unput.{Unput}

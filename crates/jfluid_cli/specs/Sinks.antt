@@ -1,6 +1,6 @@
 -- What clauses see of a call's devices: sinks, source and files.
 use Rattle.std.specs.Prelude.{◌≡◌, ℕ, ◌⊎◌, List, Option, Some, slice_get}
-use Rattle.jf_bytes.specs.Streams.{Told, PutsAll, PutsPrefix, Rose}
+use Rattle.byte_streams.specs.Streams.{Told, PutsAll, PutsPrefix, Rose}
 
 -- ---- a sink
 

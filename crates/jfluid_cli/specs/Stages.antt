@@ -1,6 +1,6 @@
 -- What the parts of a call owe one another.
 use Rattle.std.specs.Prelude.{◌≡◌, ◌≢◌, ◌<◌, ℕ, ◌⊎◌, Bool, true, List, ◌∷◌, [], length, take, slice_get, Option, Some, None, Ok, Err, Result, IfOk, IfErr, IsSome}
-use Rattle.jf_bytes.specs.Streams.{Told, Rose}
+use Rattle.byte_streams.specs.Streams.{Told, Rose}
 use Rattle.plan_text.specs.declared.plan.Plan.{Plan}
 use Rattle.plan_text.specs.declared.plan.PlanError.{PlanError}
 use Rattle.plan_text.specs.declared.plan.PlanError.TheVariants as plan

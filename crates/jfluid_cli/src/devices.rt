@@ -1,6 +1,6 @@
 //! What a call is given beside its words.
 
-use jf_bytes::{Files, Sink, Source};
+use byte_streams::{Files, Sink, Source};
 use std::marker::Model;
 
 /// What a call of the program reads and what it writes: the files by their names, the input, and

@@ -1,7 +1,7 @@
 //! What is shown of a run: its images, the records of its swaps, and behind them its report.
 
 ghost use Rattle.std.specs.Prelude.{◌≡◌, false, IfOk, MatchResult, OnOk};
-ghost use Rattle.jf_bytes.specs.Streams.{PutsAll, PutsPrefix};
+ghost use Rattle.byte_streams.specs.Streams.{PutsAll, PutsPrefix};
 ghost use Rattle.profile_session.specs.Answers.{Gathers};
 ghost use Rattle.jfluid_cli.specs.Calls.{IsShown};
 ghost use Rattle.jfluid_cli.specs.Images.{IsImaged, UnputCause, images_of, swap_record, swap_records};
@@ -10,7 +10,8 @@ ghost use Rattle.jfluid_cli.specs.Sinks.{IsUntold, sink_view};
 
 use crate::refusal::Refusal;
 use crate::reporting::{gather, give_report};
-use jf_bytes::{NoMemory, Sink};
+use byte_streams::Sink;
+use jf_bytes::NoMemory;
 use profile_session::{Session, Swap};
 use std::alloc::Global;
 

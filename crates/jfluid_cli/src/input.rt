@@ -7,8 +7,9 @@ ghost use Rattle.jfluid_cli.specs.Sinks.{source_view};
 ghost use Rattle.jfluid_cli.specs.Stages.{IsInputRefusal};
 
 use crate::refusal::Refusal;
+use byte_streams::Source;
 use command_line::{InputError, take_input};
-use jf_bytes::{Seq, Source};
+use jf_bytes::Seq;
 use std::alloc::Global;
 
 /// Takes the input to its end. It is taken once a program was admitted.

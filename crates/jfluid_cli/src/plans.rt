@@ -1,7 +1,7 @@
 //! The plan of the words: of the file that they name, of their word for a root, or the silent one.
 
 ghost use Rattle.std.specs.Prelude.{◌≡◌, ℕ, List, [], Ok, Some, IfOk, IfErr, IsOk};
-ghost use Rattle.jf_bytes.specs.Streams.{IsFetched};
+ghost use Rattle.byte_streams.specs.Streams.{IsFetched};
 ghost use Rattle.plan_text.specs.Bounds.{IsWithin};
 ghost use Rattle.plan_text.specs.Lines.{IsPlanRead, most_bytes};
 ghost use Rattle.command_line.specs.Chosen.{IsOwnPlan};
@@ -14,8 +14,9 @@ ghost use Rattle.jfluid_cli.specs.Stages.{HasFetchCause, IsFetchFault, IsOwnRefu
 ghost use Rattle.jfluid_cli.specs.Stages.{IsToldRefusal};
 
 use crate::refusal::Refusal;
+use byte_streams::{FetchError, Files};
 use command_line::{Words, own_plan};
-use jf_bytes::{FetchError, Files, Seq};
+use jf_bytes::Seq;
 use plan_text::{Plan, PlanError, read_plan};
 use std::alloc::Global;
 

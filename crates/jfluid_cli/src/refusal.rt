@@ -2,7 +2,7 @@
 
 ghost use Rattle.std.specs.Prelude.{◌≡◌, ◌⊎◌, true, false, unwrap_or, [], None, IfOk};
 ghost use Rattle.std.specs.String.{string_bytes};
-ghost use Rattle.jf_bytes.specs.Streams.{PutsAll, Rose};
+ghost use Rattle.byte_streams.specs.Streams.{PutsAll, Rose};
 ghost use Rattle.command_line.specs.Words.{text, texts};
 ghost use Rattle.jfluid_cli.specs.Contents.{word_at as word_in};
 ghost use Rattle.jfluid_cli.specs.Refusals.{status_of, cause_of, refusal_line, told_of_fetch, told_of_file};
@@ -10,9 +10,9 @@ ghost use Rattle.jfluid_cli.specs.Refusals.{line_word as line_told, plan_cause a
 ghost use Rattle.jfluid_cli.specs.Sinks.{PutsOrRose, sink_view};
 
 use crate::causes::{admission_cause, class_in};
+use byte_streams::Sink;
 use class_reader::ReadError;
 use code_admission::AdmitError;
-use jf_bytes::Sink;
 use plan_text::{LineCause, PlanError};
 use std::alloc::{AllocError, Global};
 

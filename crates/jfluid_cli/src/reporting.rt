@@ -8,7 +8,8 @@ ghost use Rattle.jfluid_cli.specs.Sinks.{IsUntold, sink_view};
 ghost use Rattle.jfluid_cli.specs.Top.{status_of_ending, is_run, is_status, report_of};
 
 use crate::refusal::{Refusal, put_bytes};
-use jf_bytes::{NoMemory, Sink};
+use byte_streams::Sink;
+use jf_bytes::NoMemory;
 use jvm_model::Ending;
 use profile_report::{Facts, report};
 use profile_session::{ActError, Session};

@@ -2,7 +2,7 @@
 use Rattle.std.proofs.Common.{◌≡◌, ℕ, List, map, Option, None, subst}
 use Rattle.std.specs.Option.{IfSome}
 use Rattle.std.specs.Str.Lines.{lines}
-use Rattle.jf_bytes.specs.Streams.{Told}
+use Rattle.byte_streams.specs.Streams.{Told}
 use Rattle.jvm_model.specs.declared.program.Program.{Program}
 use Rattle.jvm_machine.specs.View.{View}
 use Rattle.machine_rows.specs.declared.line.Placed.{Placed}

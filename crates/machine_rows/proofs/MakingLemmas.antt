@@ -2,7 +2,7 @@
 use Rattle.std.proofs.Common.{◌≡◌, ◌<◌, ◌+◌, ℕ, List, [], ◌∷◌, ◌++◌, length, map, take, sym, subst}
 use Rattle.std.specs.Prelude.{Option, true, codes, get_or}
 use Rattle.std.specs.Str.{bytes_eq}
-use Rattle.jf_bytes.specs.Streams.{Told}
+use Rattle.byte_streams.specs.Streams.{Told}
 use Rattle.const_pool.specs.declared.class.ClassFile.{ClassFile}
 use Rattle.class_reader.specs.Files.{IsFile}
 use Rattle.row_words.specs.Files.{IsFileAt}

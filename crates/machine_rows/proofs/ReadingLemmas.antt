@@ -2,7 +2,7 @@
 use Rattle.std.proofs.Common.{◌≡◌, ◌<◌, ◌≤◌, ◌+◌, ℕ, zero, suc, List, [], ◌∷◌, ◌++◌, length, map, take, drop, ap, sym, subst, ◌∙◌, refl, arith}
 use Rattle.std.specs.Prelude.{Option, Some, None, get_or}
 use Rattle.std.proofs.lemmas.List.{take_all}
-use Rattle.jf_bytes.specs.Streams.{Told}
+use Rattle.byte_streams.specs.Streams.{Told}
 use Rattle.jvm_model.specs.declared.program.Program.{Program}
 use Rattle.machine_rows.specs.declared.line.Placed.{Placed}
 use Rattle.machine_rows.specs.declared.parts.RowError.{RowError}

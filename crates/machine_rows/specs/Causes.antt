@@ -1,7 +1,7 @@
 -- Why the lines of a row are not read.
 use Rattle.std.specs.Prelude.{◌≡◌, ℕ, List, ◌∷◌, ◌++◌, Option}
 use Rattle.std.specs.String.{string_bytes}
-use Rattle.jf_bytes.specs.Streams.{Told}
+use Rattle.byte_streams.specs.Streams.{Told}
 use Rattle.jvm_model.specs.declared.program.Program.{Program}
 use Rattle.machine_rows.specs.declared.parts.RowError.{RowError}
 use Rattle.machine_rows.specs.declared.parts.RowError.TheVariants.{Missing, NotText, NotRead, NotAdmitted, Unknown, NoMemory}

@@ -1,7 +1,7 @@
 -- The verdict on a row.
 use Rattle.std.specs.Prelude.{◌≡◌, ℕ, List, map, Option, None, IfSome}
 use Rattle.std.specs.Str.Lines.{lines}
-use Rattle.jf_bytes.specs.Streams.{Told}
+use Rattle.byte_streams.specs.Streams.{Told}
 use Rattle.jvm_machine.specs.View.{View}
 use Rattle.machine_rows.specs.declared.line.Placed.{Placed}
 use Rattle.machine_rows.specs.declared.playing.Failure.{Failure}

@@ -7,7 +7,7 @@ use crate::making::make;
 use crate::parts::{RowError, fetch_text};
 use crate::playing::{Failure, play_all};
 use crate::reading::read_lines;
-use jf_bytes::Files;
+use byte_streams::Files;
 use row_words::lines_of;
 use std::alloc::Global;
 

@@ -31,7 +31,7 @@ mod telling;
 mod turns;
 mod words;
 
-use jf_bytes::DiskFiles;
+use byte_streams::DiskFiles;
 use judging::judge;
 use std::process::ExitCode;
 use std::{env, io};

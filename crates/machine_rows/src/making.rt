@@ -15,14 +15,16 @@ ghost use Rattle.program_fit.specs.Runnable.{IsAdmitted};
 
 use crate::parts::{RowError, fetch_file, line_parted};
 use admit_check::admit;
+use byte_streams::Files;
 use class_reader::{ReadError, read_class};
 use code_admission::AdmitError;
 use const_pool::ClassFile;
-use jf_bytes::{Files, NoMemory, Seq, from_utf8};
+use jf_bytes::{NoMemory, Seq};
 use jvm_machine::Vm;
 use jvm_model::Program;
 use plan_text::silent;
 use std::alloc::Global;
+use text_coding::from_utf8;
 
 /// The most classes of a program.
 const MOST_CLASSES: usize = 4096;

@@ -6,7 +6,8 @@ ghost use Rattle.machine_rows.specs.Causes.{IsMissing};
 ghost use Rattle.row_words.specs.Files.{IsFileAt};
 ghost use Rattle.machine_rows.specs.Words.{rest_of, word_of};
 
-use jf_bytes::{FetchError, Files, NoMemory};
+use byte_streams::{FetchError, Files};
+use jf_bytes::NoMemory;
 use row_words::{MOST, split_at_first};
 use std::alloc::{AllocError, AllocFailed, Global};
 use thiserror::Error;

@@ -7,7 +7,8 @@ ghost use Rattle.machine_rows.specs.Causes.{IsCause, IsSilent};
 use crate::line::{Line, Placed};
 use crate::parts::RowError;
 use crate::saying::line_said;
-use jf_bytes::{Files, NoMemory, Seq};
+use byte_streams::Files;
+use jf_bytes::{NoMemory, Seq};
 use jvm_model::Program;
 use std::alloc::Global;
 

@@ -3,7 +3,7 @@ use Rattle.std.proofs.Common.{◌≡◌, ℕ, ◌+◌, ◌<◌, ◌≤◌, List,
 use Rattle.std.specs.Prelude.{IsSomeAnd}
 use Rattle.std.specs.Option.{option_map}
 use Rattle.std.proofs.lemmas.List.{length-take, take_all}
-use Rattle.jf_bytes.specs.Streams.{Told, contents_at, IsFetched, IsToldAs, HasTold}
+use Rattle.byte_streams.specs.Streams.{Told, contents_at, IsFetched, IsToldAs, HasTold}
 use Rattle.map_rows.specs.Files.{most}
 
 abbrev some : List ℕ → Option (List ℕ)

@@ -1,7 +1,7 @@
 -- When a file is not read.
 use Rattle.std.specs.Prelude.{◌≡◌, ◌<◌, ℕ, List, length, Option, codes}
 use Rattle.std.specs.Str.{IsUtf8}
-use Rattle.jf_bytes.specs.Streams.{Told, HasTold, Rose}
+use Rattle.byte_streams.specs.Streams.{Told, HasTold, Rose}
 use Rattle.map_rows.specs.declared.reading.Cause.{Cause}
 use Rattle.map_rows.specs.declared.reading.Cause.TheVariants.{NotFetched, TooLong, NotText, NoMemory}
 

@@ -3,7 +3,7 @@ use Rattle.std.specs.Prelude.{◌≡◌, ℕ, zero, suc, List, ◌++◌, ◌==�
 use Rattle.std.specs.Fmt.{decimal}
 use Rattle.std.specs.List.{flat_map}
 use Rattle.std.specs.String.{string_bytes}
-use Rattle.jf_bytes.specs.Streams.{Told, IsToldAs}
+use Rattle.byte_streams.specs.Streams.{Told, IsToldAs}
 use Rattle.map_rows.specs.declared.reporting.Report.{Report}
 use Rattle.map_rows.specs.Names.{missing}
 

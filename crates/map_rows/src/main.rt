@@ -11,7 +11,7 @@ mod reporting;
 ghost use Rattle.std.specs.Prelude.{◌≡◌};
 ghost use Rattle.map_rows.specs.Files.{reason_of};
 
-use jf_bytes::DiskFiles;
+use byte_streams::DiskFiles;
 use reading::Cause;
 use reporting::judge;
 use std::io;

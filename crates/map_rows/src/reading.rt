@@ -1,10 +1,10 @@
 //! The two files, and why one is not read.
 
 ghost use Rattle.std.specs.Prelude.{◌≡◌, string_bytes, IfOk, IfErr, OnOk};
-ghost use Rattle.jf_bytes.specs.Streams.{IsToldAs};
+ghost use Rattle.byte_streams.specs.Streams.{IsToldAs};
 ghost use Rattle.map_rows.specs.Files.{IsCause};
 
-use jf_bytes::{FetchError, Files};
+use byte_streams::{FetchError, Files};
 use std::alloc::Global;
 
 /// The greatest length of a file.

@@ -8,7 +8,7 @@ ghost use Rattle.map_rows.specs.Reporting.{IsReport, last_line, line_of, text_of
 
 use crate::names::missing;
 use crate::reading::{Cause, read_text};
-use jf_bytes::Files;
+use byte_streams::Files;
 use std::alloc::{AllocError, Global};
 
 /// What is said, and whether no name is missing.

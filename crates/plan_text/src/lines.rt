@@ -21,8 +21,9 @@ ghost use Rattle.plan_text.specs.Bounds.{IsWithin};
 use crate::numbers::{heap_of, number_of};
 use crate::plan::{Action, LineCause, Plan, PlanError, RootName};
 use crate::roots::{name_slashed, read_root};
-use jf_bytes::{Seq, from_utf8};
+use jf_bytes::Seq;
 use std::alloc::{AllocError, Global};
+use text_coding::from_utf8;
 
 /// A text of more bytes is no plan.
 const MOST_BYTES: usize = 1_048_576;

@@ -6,8 +6,9 @@ ghost use Rattle.plan_text.specs.Roots.{name_slashed as with_slashes};
 
 use crate::plan::RootName;
 use const_pool::{DescriptorError, parse_method};
-use jf_bytes::{NoMemory, Text16, from_utf8};
+use jf_bytes::{NoMemory, Text16};
 use std::alloc::Global;
+use text_coding::from_utf8;
 
 /// `.`, which divides the parts of a class name, and the class from the method.
 const DOT: u16 = 46;

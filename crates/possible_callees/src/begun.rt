@@ -26,10 +26,11 @@ use crate::lookup::{
 };
 use class_index::{Order, Wanted};
 use class_linker::Linker;
-use jf_bytes::{NoMemory, Text16, from_utf8};
+use jf_bytes::{NoMemory, Text16};
 use jvm_model::{MemberName, SymbolicReference};
 use member_selection::{DeclaredMember, MethodNumbers, resolved_name};
 use std::alloc::Global;
+use text_coding::from_utf8;
 
 /// The class that invokevirtual or invokeinterface names, and which of them does.
 #[derive(Clone, Copy)]

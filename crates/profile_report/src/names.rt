@@ -6,9 +6,10 @@ ghost use Rattle.profile_report.specs.Reports.{class_text, member_text, method_t
 ghost use Rattle.profile_report.specs.Shown.{text_shown};
 
 use const_pool::ClassFile;
-use jf_bytes::{NoMemory, Text16, to_utf8};
+use jf_bytes::{NoMemory, Text16};
 use jvm_model::Program;
 use std::alloc::Global;
+use text_coding::to_utf8;
 
 /// Adds a text that the pool may have, in UTF-8.
 fn push_text(alloc: Global, out: &mut Vec<u8>, text: Option<&Text16>) -> Result<(), NoMemory>

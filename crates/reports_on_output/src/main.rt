@@ -2,8 +2,8 @@
 //! the report behind the output, so that a stored run shows both.
 #![tactic(auto)]
 
+use byte_streams::{DiskFiles, StdSink, StdSource};
 use command_line::{SystemWords, raw_words};
-use jf_bytes::{DiskFiles, StdSink, StdSource};
 use jfluid_cli::{Devices, jfluid};
 use std::process::ExitCode;
 

@@ -1,7 +1,7 @@
 -- Files that are read, one by one.
 use Rattle.std.proofs.Common.{◌≡◌, ◌<◌, ◌+◌, ℕ, List, [], ◌∷◌, ◌++◌, length, map, take, drop, ap, sym, subst, ◌∙◌}
 use Rattle.std.specs.Prelude.{Option, get_or}
-use Rattle.jf_bytes.specs.Streams.{Told}
+use Rattle.byte_streams.specs.Streams.{Told}
 use Rattle.revelation_rows.specs.Files.{AreRead, IsAdded, IsOneUnread, IsUnread}
 use Rattle.revelation_rows.specs.declared.parts.RowError.{RowError}
 use Rattle.row_words.proofs.ListLemmas.{parted-each, taken-more}

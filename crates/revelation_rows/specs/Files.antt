@@ -1,7 +1,7 @@
 -- What the files that the words name give.
 use Rattle.std.specs.Prelude.{◌≡◌, ◌==◌, ℕ, Bool, List, [], ◌∷◌, ◌++◌, Option, codes, if◌then◌else◌}
 use Rattle.std.specs.List.{ends_with}
-use Rattle.jf_bytes.specs.Streams.{Told}
+use Rattle.byte_streams.specs.Streams.{Told}
 use Rattle.std.specs.String.{string_bytes}
 use Rattle.revelation_rows.specs.declared.parts.RowError.{RowError}
 use Rattle.revelation_rows.specs.declared.parts.RowError.TheVariants.{Missing, NoMemory, NoRoot, NotAdmitted, NotRead, NotText, Unknown}

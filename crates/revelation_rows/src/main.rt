@@ -27,7 +27,7 @@ mod reading;
 mod scenes;
 mod spent;
 
-use jf_bytes::DiskFiles;
+use byte_streams::DiskFiles;
 use judging::judge_all;
 use parts::read_files;
 use std::process::ExitCode;

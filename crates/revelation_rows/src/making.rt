@@ -16,10 +16,11 @@ use admit_check::admit;
 use class_reader::{ReadError, read_class};
 use code_admission::AdmitError;
 use const_pool::ClassFile;
-use jf_bytes::{Seq, from_utf8};
+use jf_bytes::Seq;
 use jvm_model::Program;
 use plan_text::silent;
 use std::alloc::Global;
+use text_coding::from_utf8;
 
 /// The most classes of a program.
 const MOST_CLASSES: usize = 4096;

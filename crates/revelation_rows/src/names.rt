@@ -9,10 +9,11 @@ ghost use Rattle.revelation_rows.specs.Names.{class_shown, has_method, is_called
 ghost use Rattle.revelation_rows.specs.Names.{method_called, method_shown, name_said, text_shown, unit_shown};
 
 use const_pool::ClassFile;
-use jf_bytes::{NoMemory, Text16, from_utf8};
+use jf_bytes::{NoMemory, Text16};
 use jvm_model::{Mark, MethodPlace, Program};
 use row_words::{LookUp, has_name, number_of, split_at_first};
 use std::alloc::Global;
+use text_coding::from_utf8;
 
 // ---- found
 

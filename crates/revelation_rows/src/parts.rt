@@ -6,7 +6,7 @@ ghost use Rattle.revelation_rows.specs.Files.{AreRead, IsAdded, IsOneUnread, IsU
 ghost use Rattle.revelation_rows.specs.Lines.{is_row as row_line};
 ghost use Rattle.row_words.specs.Files.{IsFileAt};
 
-use jf_bytes::{FetchError, Files};
+use byte_streams::{FetchError, Files};
 use row_words::MOST;
 use std::alloc::Global;
 use thiserror::Error;

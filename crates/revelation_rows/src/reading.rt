@@ -11,10 +11,11 @@ ghost use Rattle.revelation_rows.specs.Reading.{with_mark, word_item, word_items
 
 use crate::item::{Fact, Happening, Item};
 use crate::names::{MethodNames, method_named};
-use jf_bytes::{NoMemory, Seq, from_utf8};
+use jf_bytes::{NoMemory, Seq};
 use jvm_model::{Mark, Program};
 use row_words::{LookUp, classes_in, find_all, split_at_first, words_in};
 use std::alloc::Global;
+use text_coding::from_utf8;
 
 /// How often `again` enters a method.
 const AGAIN: u32 = 10_000_000;

@@ -14,10 +14,11 @@ ghost use Rattle.revelation_rows.specs.Scenes.{HasHappened, IsBlank, IsFollowed,
 use crate::spent::{Spent, nanoseconds};
 use call_revelation::Reveal;
 use class_linker::{Linker, Loaded};
-use jf_bytes::{NoMemory, Text16, from_utf8};
+use jf_bytes::{NoMemory, Text16};
 use jvm_model::Program;
 use std::alloc::Global;
 use std::time::CpuClock;
+use text_coding::from_utf8;
 
 /// What is loaded, what is selected, entered and marked, and what was taken.
 #[derive(Drop)]

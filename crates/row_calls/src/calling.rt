@@ -4,7 +4,8 @@ ghost use Rattle.std.specs.Prelude.{◌≡◌, IfOk};
 ghost use Rattle.row_calls.specs.Calls.{IsAnswerTo};
 
 use crate::given::{Device, Failure, NamedFile, RowInput};
-use jf_bytes::{MemFiles, MemSink, MemSource, NoMemory, Seq};
+use byte_streams::{MemFiles, MemSink, MemSource};
+use jf_bytes::{NoMemory, Seq};
 use jfluid_cli::{Devices, jfluid};
 use std::alloc::{AllocError, Global};
 

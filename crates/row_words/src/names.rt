@@ -7,9 +7,10 @@ ghost use Rattle.row_words.specs.Names.{class_called, classes_called, in_32_bits
 use crate::finding::{LookUp, find_all};
 use crate::words::words_in;
 use const_pool::ClassFile;
-use jf_bytes::{NoMemory, Seq, Text16, from_utf8};
+use jf_bytes::{NoMemory, Seq, Text16};
 use jvm_model::Program;
 use std::alloc::Global;
+use text_coding::from_utf8;
 
 /// A position as the number of a class or a method.
 pub fn number_of(position: Option<usize>) -> Option<u32>

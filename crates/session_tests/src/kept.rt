@@ -1,6 +1,7 @@
 //! A session on a class, which the top call has begun.
 
-use jf_bytes::{MemFiles, MemSink, MemSource, Seq};
+use byte_streams::{MemFiles, MemSink, MemSource};
+use jf_bytes::Seq;
 use jfluid_cli::{Devices, jfluid};
 use profile_session::Session;
 use std::alloc::{AllocError, Global};

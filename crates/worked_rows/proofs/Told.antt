@@ -2,7 +2,7 @@
 use Rattle.std.proofs.Common.{◌≡◌, ℕ, List, [], ◌∷◌, ◌++◌, Option, Some, None, IfSome, sym, ap, subst, ◌∙◌}
 use Rattle.std.specs.Prelude.{codes}
 use Rattle.std.proofs.lemmas.List.Elements.{All-push}
-use Rattle.jf_bytes.specs.Streams.{Told}
+use Rattle.byte_streams.specs.Streams.{Told}
 use Rattle.worked_rows.specs.Answers.{Agrees}
 use Rattle.row_calls.specs.Calls.{IsAnswerTo}
 use Rattle.worked_rows.specs.Lines.{lines_in}

@@ -1,6 +1,6 @@
 -- When what came of a row is what must come, and what is told where it is not.
 use Rattle.std.specs.Prelude.{◌≡◌, ◌≢◌, ◌+◌, ◌==◌, ◌++◌, ℕ, List, [], ◌∷◌, take, length, min, codes, decimal, bytes_eq, count_by, slice_get, if◌then◌else◌}
-use Rattle.jf_bytes.specs.Streams.{greatest}
+use Rattle.byte_streams.specs.Streams.{greatest}
 use Rattle.worked_rows.specs.Lines.{lines_in}
 use Rattle.row_calls.specs.declared.calling.Answer.{Answer}
 use Rattle.worked_rows.specs.declared.comparing.Difference.{Difference}

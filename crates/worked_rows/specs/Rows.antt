@@ -1,6 +1,6 @@
 -- What the folder of a row states.
 use Rattle.std.specs.Prelude.{◌≡◌, ◌++◌, ◌∷◌, ◌⊎◌, ℕ, List, [], Option, Some, codes}
-use Rattle.jf_bytes.specs.Streams.{Told, front_at}
+use Rattle.byte_streams.specs.Streams.{Told, front_at}
 use Rattle.worked_rows.specs.Lines.{lines_in}
 use Rattle.worked_rows.specs.declared.expected.Expected.{Expected}
 use Rattle.worked_rows.specs.declared.expected.ExpectedReport.{ExpectedReport}

@@ -1,7 +1,7 @@
 -- When a row has passed, and what is told of the rows of a list.
 use Rattle.std.specs.Prelude.{◌≡◌, ℕ, List, None, All}
 use Rattle.std.specs.String.{string_bytes}
-use Rattle.jf_bytes.specs.Streams.{Told}
+use Rattle.byte_streams.specs.Streams.{Told}
 use Rattle.worked_rows.specs.Answers.{Agrees}
 use Rattle.row_calls.specs.Calls.{IsAnswerTo}
 use Rattle.worked_rows.specs.Rows.{HasExpected, HasWords}

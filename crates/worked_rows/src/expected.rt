@@ -4,7 +4,7 @@ ghost use Rattle.std.specs.Prelude.{◌≡◌, IfOk, IfSome};
 ghost use Rattle.worked_rows.specs.Rows.{HasExpected, HasImages, HasReport};
 
 use crate::parts::{RowError, fetch_part};
-use jf_bytes::Files;
+use byte_streams::Files;
 use std::alloc::Global;
 
 /// What must come on the report.

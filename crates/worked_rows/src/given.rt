@@ -8,7 +8,8 @@ ghost use Rattle.worked_rows.specs.Rows.{HasWords, part_at};
 use crate::lines::lines_in;
 use crate::lists::lines_of;
 use crate::parts::{RowError, fetch_file, fetch_part};
-use jf_bytes::{Files, Seq};
+use byte_streams::Files;
+use jf_bytes::Seq;
 use row_calls::{Device, Failure, NamedFile, RowInput};
 use std::alloc::{AllocError, Global};
 

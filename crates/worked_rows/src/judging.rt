@@ -2,7 +2,7 @@
 
 ghost use Rattle.std.specs.Prelude.{◌≡◌, ◌<◌, ◌↔◌, Some, None, Ok, Err, map, IfOk, IfSome, IsTrue};
 ghost use Rattle.std.specs.String.{string_bytes};
-ghost use Rattle.jf_bytes.specs.Streams.{Rose};
+ghost use Rattle.byte_streams.specs.Streams.{Rose};
 ghost use Rattle.worked_rows.specs.Lists.{row_names};
 ghost use Rattle.worked_rows.specs.Rows.{file_at};
 ghost use Rattle.worked_rows.specs.Verdicts.{HasPassed, AreTrueOf, name_of};
@@ -12,7 +12,7 @@ use crate::expected::read_expected;
 use crate::given::{read_given, runs_of};
 use crate::lists::row_names;
 use crate::parts::{MOST, RowError};
-use jf_bytes::{FetchError, Files};
+use byte_streams::{FetchError, Files};
 use row_calls::answer_to;
 use std::alloc::{AllocError, AllocFailed, Global};
 use std::fmt;

@@ -11,7 +11,7 @@ mod lines;
 mod lists;
 mod parts;
 
-use jf_bytes::DiskFiles;
+use byte_streams::DiskFiles;
 use judging::judge_list;
 use std::process::ExitCode;
 use std::{env, io};

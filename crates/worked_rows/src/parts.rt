@@ -3,7 +3,8 @@
 ghost use Rattle.std.specs.Prelude.{◌≡◌, Some, IfOk, IfSome};
 ghost use Rattle.worked_rows.specs.Rows.{file_at, part_at};
 
-use jf_bytes::{FetchError, Files, NoMemory};
+use byte_streams::{FetchError, Files};
+use jf_bytes::NoMemory;
 use std::alloc::{AllocError, AllocFailed, Global};
 use thiserror::Error;
 

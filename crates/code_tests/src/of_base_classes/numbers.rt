@@ -1,8 +1,9 @@
 //! Places of classes and numbers of native methods.
 
 use base_classes::{built_in_name, is_built_in, native_of, position_of};
-use jf_bytes::{Text16, from_utf8};
+use jf_bytes::Text16;
 use std::alloc::Global;
+use text_coding::from_utf8;
 
 /// A class, a name and a descriptor; the place of the class, and the number of the native method.
 static ROWS: [(&str, &str, &str, Option<usize>, Option<u16>); 14] = [

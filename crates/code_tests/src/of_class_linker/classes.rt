@@ -10,10 +10,11 @@ use base_classes::built_in;
 use class_linker::Linker;
 use class_reader::read_class;
 use const_pool::ClassFile;
-use jf_bytes::{NoMemory, Seq, Text16, from_utf8};
+use jf_bytes::{NoMemory, Seq, Text16};
 use jvm_model::Program;
 use std::alloc::Global;
 use std::test::Fail;
+use text_coding::from_utf8;
 
 /// A class: its flags, its name, its superclass's, its superinterfaces', its fields and its methods. A field or a
 /// method is its flags, its name and its descriptor with spaces between.

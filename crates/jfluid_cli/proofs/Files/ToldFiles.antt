@@ -6,7 +6,7 @@ use Rattle.std.specs.Option.{option_map}
 use Rattle.std.proofs.lemmas.Bool.{cases_lt}
 use Rattle.std.proofs.lemmas.List.{length-take, take_all}
 use Rattle.std.proofs.lemmas.Option.{same_Some, none-some}
-use Rattle.jf_bytes.specs.Streams.{Told, contents_at, IsToldAs}
+use Rattle.byte_streams.specs.Streams.{Told, contents_at, IsToldAs}
 use Rattle.const_pool.specs.declared.class.ClassFile.{ClassFile}
 use Rattle.class_reader.specs.declared.error.ReadError.{ReadError}
 use Rattle.class_reader.specs.Files.{most_bytes, IsFirstFault}

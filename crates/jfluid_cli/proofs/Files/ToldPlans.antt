@@ -6,7 +6,7 @@ use Rattle.std.specs.Option.{option_map}
 use Rattle.std.proofs.lemmas.Bool.{cases_lt, lt-leb}
 use Rattle.std.proofs.lemmas.List.{length-take, take_all}
 use Rattle.std.proofs.lemmas.Option.{same_Some, none-some}
-use Rattle.jf_bytes.specs.Streams.{Told, contents_at, IsFetched}
+use Rattle.byte_streams.specs.Streams.{Told, contents_at, IsFetched}
 use Rattle.plan_text.specs.declared.plan.Plan.{Plan}
 use Rattle.plan_text.specs.declared.plan.PlanError.{PlanError}
 use Rattle.plan_text.specs.declared.plan.PlanError.TheVariants as plan

@@ -2,7 +2,7 @@
 use Rattle.std.proofs.Common.{◌≡◌, ℕ, Bool, List, Option, sym, subst, inl, inr}
 use Rattle.std.specs.Prelude.{◌⊎◌, Result, Ok, Err, IfOk, IfErr, IsOk, OnOk, MatchResult}
 use Rattle.std.proofs.lemmas.Bool.{false≢true}
-use Rattle.jf_bytes.specs.Streams.{Rose}
+use Rattle.byte_streams.specs.Streams.{Rose}
 use Rattle.profile_session.specs.Answers.{Gathers}
 use Rattle.profile_session.specs.Sessions.{Profiling}
 use Rattle.jfluid_cli.specs.declared.kept.Kept.{Kept}

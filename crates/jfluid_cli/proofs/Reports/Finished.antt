@@ -5,7 +5,7 @@ use Rattle.std.specs.Option.{option_map_or}
 use Rattle.std.proofs.lemmas.Bool.{cases_eq, false≢true}
 use Rattle.std.proofs.lemmas.Option.{none-some}
 use Rattle.jf_bytes.specs.declared.error.NoMemory.{NoMemory as OutOfMemory}
-use Rattle.jf_bytes.specs.Streams.{PutsAll, PutsPrefix, Rose}
+use Rattle.byte_streams.specs.Streams.{PutsAll, PutsPrefix, Rose}
 use Rattle.const_pool.specs.declared.class.ClassFile.{ClassFile}
 use Rattle.plan_text.specs.declared.plan.Plan.{Plan}
 use Rattle.jvm_model.specs.declared.program.Program.{Program}

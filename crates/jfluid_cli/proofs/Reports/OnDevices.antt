@@ -3,7 +3,7 @@ use Rattle.std.proofs.Common.{◌≡◌, ℕ, Bool, List, Option, Some, None, su
 use Rattle.std.specs.Prelude.{◌⊎◌, Result, MatchResult, IsSomeAnd}
 use Rattle.std.proofs.lemmas.Result.{MatchResult-weaker}
 use Rattle.jf_bytes.specs.declared.error.NoMemory.{NoMemory as OutOfMemory}
-use Rattle.jf_bytes.specs.Streams.{Rose}
+use Rattle.byte_streams.specs.Streams.{Rose}
 use Rattle.jfluid_cli.specs.declared.kept.Kept.{Kept}
 use Rattle.jfluid_cli.specs.declared.refusal.Refusal.{Refusal}
 use Rattle.jfluid_cli.specs.declared.refusal.Refusal.TheVariants.{OutFailed, NoMemory}

@@ -4,7 +4,7 @@ use Rattle.std.specs.Prelude.{Result, Ok, Err, is_some, IfSome, IsSome, IsSomeAn
 use Rattle.std.specs.Io.KnownBytes.{Consumes, IsAtEnd}
 use Rattle.std.specs.Option.{option_map_or, option_and_then}
 use Rattle.std.proofs.lemmas.Bool.{false≢true}
-use Rattle.jf_bytes.specs.Streams.{PutsPrefix}
+use Rattle.byte_streams.specs.Streams.{PutsPrefix}
 use Rattle.plan_text.specs.declared.plan.Plan.{Plan}
 use Rattle.jvm_model.specs.declared.program.Program.{Program}
 use Rattle.jvm_model.specs.Running.Run.{output_of}

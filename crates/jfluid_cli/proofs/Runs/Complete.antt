@@ -1,7 +1,7 @@
 -- What is accepted and without a fault: the ending at the budget, of the one program.
 use Rattle.std.proofs.Common.{◌≡◌, ℕ, ◌+◌, ◌<◌, ◌≤◌, List, Option, sym, ap, ◌∙◌, arith, inl, inr}
 use Rattle.std.specs.Prelude.{min, Result, Ok}
-use Rattle.jf_bytes.specs.Streams.{Rose, greatest}
+use Rattle.byte_streams.specs.Streams.{Rose, greatest}
 use Rattle.jvm_model.specs.declared.program.Program.{Program}
 use Rattle.jvm_model.specs.declared.state.State.{State}
 use Rattle.code_admission.specs.declared.error.AdmitError.{AdmitError}

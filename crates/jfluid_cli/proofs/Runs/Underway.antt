@@ -7,7 +7,7 @@ use Rattle.profile_session.specs.Sessions.{LiveRunOn, Profiling, is_over, world_
 use Rattle.jvm_model.specs.declared.event.Act.{Act}
 use Rattle.jvm_model.specs.declared.program.Program.{Program}
 use Rattle.jvm_model.specs.Running.Run.{run, before}
-use Rattle.jf_bytes.specs.Streams.{PutsPrefix}
+use Rattle.byte_streams.specs.Streams.{PutsPrefix}
 use Rattle.jfluid_cli.specs.declared.running.Reached.{Reached}
 use Rattle.jfluid_cli.specs.Actions.{Begins, CanBeTaken, GoesOn, IsAlong, Takes}
 use Rattle.jfluid_cli.specs.Runs.{EndedIn, IsCarriedOut, IsFresh, IsGoing, IsPlanned, RanFor, SameProgram, output_at, written_between, is_ended_at}

@@ -7,8 +7,9 @@ ghost use Rattle.native_effects.specs.Effects.Ports.{answer_of_read, after_read,
 
 use crate::effects::answer::Answer;
 use heap_objects::Datum;
-use jf_bytes::{NoMemory, Seq, Text16, to_utf8};
+use jf_bytes::{NoMemory, Seq, Text16};
 use std::alloc::Global;
+use text_coding::to_utf8;
 
 /// Reads the byte behind those that were read: 0 to 255, and -1 at the end.
 #[tactic(auto, using(std::proofs::lemmas::Option::slice_get_within))]

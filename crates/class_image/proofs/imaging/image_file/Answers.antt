@@ -1,6 +1,6 @@
 -- the image that was made was put
 use Rattle.std.proofs.Common.{sym, ◌∙◌}
-use Rattle.jf_bytes.specs.Streams.{PutsAll}
+use Rattle.byte_streams.specs.Streams.{PutsAll}
 use Rattle.class_image.proofs.Puts.{OnOk-map, PutsImage-found}
 use Rattle.class_image.proofs.imaging.image_file.Goals as goal
 

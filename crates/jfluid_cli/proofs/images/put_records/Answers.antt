@@ -1,7 +1,7 @@
 use Rattle.std.proofs.Common.{ℕ, List, Option, length, take, refl, sym, ap, ◌∙◌, add-one}
 use Rattle.std.proofs.lemmas.Option.{slice_get_read}
 use Rattle.std.specs.Io.KnownBytes.{append_known}
-use Rattle.jf_bytes.proofs.StreamLemmas.{append_known-append, PutsPrefix-second}
+use Rattle.byte_streams.proofs.StreamLemmas.{append_known-append, PutsPrefix-second}
 use Rattle.jfluid_cli.specs.Images.{swap_record, swap_records}
 use Rattle.jfluid_cli.proofs.Reports.Outputs.{PutsPrefix-longer}
 use Rattle.jfluid_cli.proofs.Reports.Records.{records-front, records-more}

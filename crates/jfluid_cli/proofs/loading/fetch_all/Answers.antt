@@ -1,5 +1,5 @@
 use Rattle.std.proofs.Common.{List, ℕ, Option, ◌+◌, take, sym, subst, ◌∙◌, refl, Bor}
-use Rattle.jf_bytes.specs.Streams.{Told}
+use Rattle.byte_streams.specs.Streams.{Told}
 use Rattle.command_line.specs.Words.{texts}
 use Rattle.jfluid_cli.specs.Contents.{AreFetched, IsFrontFor}
 use Rattle.jfluid_cli.specs.Sinks.{files_view}

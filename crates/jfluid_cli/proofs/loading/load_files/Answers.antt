@@ -1,5 +1,5 @@
 use Rattle.std.proofs.Common.{List, ℕ, Option, refl, sym, ap, subst}
-use Rattle.jf_bytes.specs.Streams.{Told}
+use Rattle.byte_streams.specs.Streams.{Told}
 use Rattle.command_line.specs.Chosen.{chosen_in}
 use Rattle.command_line.specs.Words.{read_in, texts}
 use Rattle.jfluid_cli.specs.Contents.{AreFetched}

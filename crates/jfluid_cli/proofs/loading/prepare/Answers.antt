@@ -1,5 +1,5 @@
 use Rattle.std.proofs.Common.{◌∙◌, Option, Ok, refl, sym, subst}
-use Rattle.jf_bytes.specs.Streams.{Told}
+use Rattle.byte_streams.specs.Streams.{Told}
 use Rattle.command_line.specs.Words.{read_in}
 use Rattle.jfluid_cli.specs.Asking.{IsPlanFor}
 use Rattle.jfluid_cli.specs.Sinks.{files_view}

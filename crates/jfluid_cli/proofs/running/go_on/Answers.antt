@@ -1,5 +1,5 @@
 use Rattle.std.proofs.Common.{subst}
-use Rattle.jf_bytes.specs.Streams.{PutsPrefix}
+use Rattle.byte_streams.specs.Streams.{PutsPrefix}
 use Rattle.jfluid_cli.proofs.Reports.Outputs.{front-longer}
 use Rattle.jfluid_cli.proofs.Runs.Underway.{one-slice, taken-acts, taken-written}
 use Rattle.jfluid_cli.proofs.running.go_on.Goals as goal

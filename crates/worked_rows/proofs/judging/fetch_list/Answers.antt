@@ -1,5 +1,5 @@
 use Rattle.std.proofs.Common.{◌≡◌, ℕ, List, Option, Some, None, IfSome, ap, sym, ◌∙◌}
-use Rattle.jf_bytes.specs.Streams.{Told, front_at}
+use Rattle.byte_streams.specs.Streams.{Told, front_at}
 use Rattle.worked_rows.specs.Rows.{file_at}
 use Rattle.worked_rows.proofs.judging.fetch_list.Goals as goal
 

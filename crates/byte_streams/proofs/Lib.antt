@@ -1,0 +1,3 @@
+pub mod AdapterLemmas
+pub mod FilesLemmas
+pub mod StreamLemmas

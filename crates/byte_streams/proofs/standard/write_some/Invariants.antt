@@ -1,0 +1,7 @@
+-- a write that was cut short wrote nothing
+use Rattle.std.specs.Io.KnownBytes.{Keeps}
+use Rattle.byte_streams.proofs.standard.write_some.Given as goal
+
+abbrev pub invariant-loop : goal.invariant-loop
+invariant-loop g l =
+    Keeps (g.W.Write.contents l.initial.writer) (g.W.Write.contents l.writer)

@@ -1,5 +1,0 @@
-use Rattle.jf_bytes.proofs.SpellingLemmas.{spelling_same}
-use Rattle.jf_bytes.proofs.modified.spelling_is_one_to_one.Goals as goal
-
-pub returns : goal.returns
-returns c = spelling_same

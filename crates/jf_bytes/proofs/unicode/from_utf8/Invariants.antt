@@ -1,8 +1,0 @@
--- the units of the characters so far
-use Rattle.std.proofs.Common.{◌≡◌}
-use Rattle.std.specs.List.{flat_map}
-use Rattle.std.specs.Char.Escape.{encode_utf16}
-use Rattle.jf_bytes.proofs.unicode.from_utf8.Given as goal
-
-abbrev pub invariant-loop-c : goal.invariant-loop-c
-invariant-loop-c l = l.units.items ≡ flat_map encode_utf16 l.yielded

@@ -1,0 +1,4 @@
+pub mod UnitLemmas
+pub mod SpellingLemmas
+pub mod FrontLemmas
+pub mod UnicodeLemmas
