@@ -7,20 +7,20 @@ use jf_bytes::Text16;
 
 /// Own is its own superclass. P extends Q, which implements J, of which P is a superinterface.
 static SHAPES: [Shape; 14] = [
-    (CLASS, "A", OBJECT, &[], &[], &[]),
-    (INTERFACE, "Face", OBJECT, &[], &[], &[]),
-    (CLASS, "K", OBJECT, &[], &[], &[]),
-    (CLASS, "Low", "Gone", &[], &[], &[]),
-    (CLASS, "Odd", OBJECT, &["[LA;"], &[], &[]),
-    (CLASS, "OnFace", "Face", &[], &[], &[]),
-    (CLASS, "Own", "Own", &[], &[], &[]),
-    (CLASS, "P", "Q", &[], &[], &[]),
-    (CLASS, "Q", OBJECT, &["Face", "J"], &[], &[]),
-    (INTERFACE, "J", OBJECT, &["P"], &[], &[]),
-    (CLASS, "Sub", "A", &["K"], &[], &[]),
-    (CLASS, "Lost", "A", &["Face", "Gone"], &[], &[]),
-    (CLASS, "B", "A", &["Face"], &[], &[]),
-    (CLASS, "p/C", "B", &[], &[], &[]),
+    (CLASS, "A", OBJECT, &[]),
+    (INTERFACE, "Face", OBJECT, &[]),
+    (CLASS, "K", OBJECT, &[]),
+    (CLASS, "Low", "Gone", &[]),
+    (CLASS, "Odd", OBJECT, &["[LA;"]),
+    (CLASS, "OnFace", "Face", &[]),
+    (CLASS, "Own", "Own", &[]),
+    (CLASS, "P", "Q", &[]),
+    (CLASS, "Q", OBJECT, &["Face", "J"]),
+    (INTERFACE, "J", OBJECT, &["P"]),
+    (CLASS, "Sub", "A", &["K"]),
+    (CLASS, "Lost", "A", &["Face", "Gone"]),
+    (CLASS, "B", "A", &["Face"]),
+    (CLASS, "p/C", "B", &[]),
 ];
 
 pub(super) fn shapes() -> &'static [Shape] {
