@@ -7,18 +7,8 @@ mod of_base_classes;
 #[cfg(test)]
 mod of_class_linker;
 #[cfg(test)]
-mod of_class_shape;
-#[cfg(test)]
 mod of_code_model;
 #[cfg(test)]
 mod of_event_buffer;
 #[cfg(test)]
-mod of_frame_stack;
-#[cfg(test)]
 mod of_heap_objects;
-#[cfg(test)]
-mod of_method_versions;
-#[cfg(test)]
-mod of_native_ops;
-#[cfg(test)]
-mod of_stackmap_shift;

@@ -1,10 +1,7 @@
-//! Programs of small classes and the built-in ones: what loads, where members are found, which methods are selected;
-//! and what becomes of a linker where memory runs out.
+//! What loads in programs of small classes and the built-in ones, also where memory runs out. Programs at the corners of
+//! the rules are rows of worked_rows (vectors); where members are found and which methods are selected is worked in
+//! class_index (WorkedLookups) and class_linker (WorkedCalls).
 
 mod classes;
-mod corner_files;
-mod corners;
 mod loads;
-mod lookups;
-mod selections;
 mod wants;

@@ -1,5 +1,4 @@
-//! Codes, faults and layouts by hand, from the instructions' pages of the JVM Specification, 6.5.
+//! Layouts at the limits of branches and of lengths. Worked codes, their faults and their layouts are computed in
+//! proofs/WorkedCodes and proofs/WorkedLayouts.
 
-mod coding;
 mod laying;
-mod worked;

@@ -1,29 +1,13 @@
-//! A source in memory and the adapters at their work, and at a fault. The sinks and files in memory are at work in each
-//! row of worked_rows.
+//! The adapters at their work, and at a fault. What is in memory is at work in each row of worked_rows.
 
 use byte_streams::{
-    DiskFiles, Failed, FetchError, Files, LateFile, MemSource, Sink, Source, StdSink, StdSource,
+    DiskFiles, Failed, FetchError, Files, LateFile, Sink, Source, StdSink, StdSource,
 };
 use std::io::{ErrorKind, Read};
 use std::test::Fail;
 use std::{fs, io};
 
 const MADE: &str = "byte_streams_made.tmp";
-
-#[test]
-fn a_source_in_memory_gives_the_next_bytes(rt: HostRuntime) -> Result<(), Fail> {
-    let bytes = vec![in rt.alloc(); 1, 2, 3, 4, 5]?;
-    let failing = vec![in rt.alloc(); 2]?;
-    let mut source = MemSource::new(bytes, failing);
-    let mut buf = [0u8; 2];
-    let answers = [Ok(2), Err(Failed), Ok(2), Ok(1), Ok(0)];
-    let contents = [[1, 2], [1, 2], [3, 4], [5, 4], [5, 4]];
-    for (answer, content) in answers.into_iter().zip(contents) {
-        assert_eq!(rt; source.take(&mut buf), answer);
-        assert_eq!(rt; buf, content);
-    }
-    Ok(())
-}
 
 /// A reader that a signal stops, that gives one byte, and that fails.
 #[derive(Drop)]

@@ -1,6 +1,4 @@
-//! Class files that were spelled by hand after the JVM Specification. Files with a fault are rows of worked_rows.
+//! Class files of the greatest counts. Files with a fault, cut files and those of the greatest length are rows of
+//! worked_rows; a class with each part is read and written in proofs/WorkedClassBytes.
 
-mod faults;
-mod files;
 mod large;
-mod whole;

@@ -59,12 +59,3 @@ fn bytes_of_programs(rt: HostRuntime) -> Result<(), Fail> {
     assert!(rt; !is_written(alloc, 2, 3, &seed_1_size_3())?);
     Ok(())
 }
-
-#[test]
-fn most_classes(rt: HostRuntime) -> Result<(), Fail> {
-    let Ok(classes) = generate(rt.alloc(), u32::MAX, 200) else {
-        return Err("memory".into());
-    };
-    assert_eq!(rt; classes.len(), 201);
-    Ok(())
-}

@@ -1,4 +1,6 @@
+mod Lists
 pub mod WorkedClass
-mod WorkedVersion
 mod WorkedLoads
-pub mod Lists
+mod WorkedReports
+mod WorkedTree
+mod WorkedVersion

@@ -5,10 +5,4 @@
 #[cfg(test)]
 mod of_admit_check;
 #[cfg(test)]
-mod of_context_tree;
-#[cfg(test)]
-mod of_inject_events;
-#[cfg(test)]
 mod of_profile_report;
-#[cfg(test)]
-mod trees;

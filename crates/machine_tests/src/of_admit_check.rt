@@ -1,7 +1,5 @@
-//! What is answered for classes that are spelled as bytes.
+//! What is answered for as many methods and classes as a program may have. Refusals, each with its cause, are rows of
+//! worked_rows (admission).
 
-mod admission;
 mod classes;
-mod codes;
 mod counts;
-mod tables;

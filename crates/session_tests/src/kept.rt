@@ -1,9 +1,9 @@
-//! Sessions on a class, which the top call has begun.
+//! A session on a class, which the top call has begun.
 
 use byte_streams::{MemFiles, MemSink, MemSource};
 use jf_bytes::Seq;
-use jfluid_cli::{Devices, Kept, jfluid};
-use profile_session::{Run, Session};
+use jfluid_cli::{Devices, jfluid};
+use profile_session::Session;
 use std::alloc::{AllocError, Global};
 use std::test::Fail;
 
@@ -31,23 +31,6 @@ const P1: [u8; 296] = [
     0x14, 0xb1, 0x00, 0x00, 0x00, 0x00, 0x00, 0x00,
 ];
 
-/// A class with the methods `r(I)V`, which calls itself with one less, down to 0, and `main([Ljava/lang/String;)V`,
-/// which calls it with 2. The run has ended after twenty steps.
-const R: [u8; 181] = [
-    0xca, 0xfe, 0xba, 0xbe, 0x00, 0x00, 0x00, 0x32, 0x00, 0x0c, 0x01, 0x00, 0x01, 0x52, 0x07, 0x00,
-    0x01, 0x01, 0x00, 0x10, 0x6a, 0x61, 0x76, 0x61, 0x2f, 0x6c, 0x61, 0x6e, 0x67, 0x2f, 0x4f, 0x62,
-    0x6a, 0x65, 0x63, 0x74, 0x07, 0x00, 0x03, 0x01, 0x00, 0x01, 0x72, 0x01, 0x00, 0x04, 0x28, 0x49,
-    0x29, 0x56, 0x01, 0x00, 0x04, 0x43, 0x6f, 0x64, 0x65, 0x0c, 0x00, 0x05, 0x00, 0x06, 0x0a, 0x00,
-    0x02, 0x00, 0x08, 0x01, 0x00, 0x04, 0x6d, 0x61, 0x69, 0x6e, 0x01, 0x00, 0x16, 0x28, 0x5b, 0x4c,
-    0x6a, 0x61, 0x76, 0x61, 0x2f, 0x6c, 0x61, 0x6e, 0x67, 0x2f, 0x53, 0x74, 0x72, 0x69, 0x6e, 0x67,
-    0x3b, 0x29, 0x56, 0x00, 0x21, 0x00, 0x02, 0x00, 0x04, 0x00, 0x00, 0x00, 0x00, 0x00, 0x02, 0x00,
-    0x09, 0x00, 0x05, 0x00, 0x06, 0x00, 0x01, 0x00, 0x07, 0x00, 0x00, 0x00, 0x17, 0x00, 0x02, 0x00,
-    0x01, 0x00, 0x00, 0x00, 0x0b, 0x1a, 0x99, 0x00, 0x09, 0x1a, 0x04, 0x64, 0xb8, 0x00, 0x09, 0xb1,
-    0x00, 0x00, 0x00, 0x00, 0x00, 0x09, 0x00, 0x0a, 0x00, 0x0b, 0x00, 0x01, 0x00, 0x07, 0x00, 0x00,
-    0x00, 0x11, 0x00, 0x01, 0x00, 0x01, 0x00, 0x00, 0x00, 0x05, 0x05, 0xb8, 0x00, 0x09, 0xb1, 0x00,
-    0x00, 0x00, 0x00, 0x00, 0x00,
-];
-
 /// The words as bytes.
 fn bytes_of(alloc: Global, words: &[&str]) -> Result<Seq<Seq<u8>>, AllocError> {
     let mut all = Seq::new(alloc);
@@ -57,20 +40,13 @@ fn bytes_of(alloc: Global, words: &[&str]) -> Result<Seq<Seq<u8>>, AllocError> {
     Ok(all)
 }
 
-/// The classes as files in memory.
+/// The class as a file in memory.
 fn files(alloc: Global) -> Result<MemFiles, AllocError> {
     let mut names = Vec::new(alloc);
     names.push(String::from_str(alloc, "P1.class")?)?;
-    names.push(String::from_str(alloc, "R.class")?)?;
     let mut contents = Vec::new(alloc);
     contents.push(Vec::from_slice(alloc, &P1)?)?;
-    contents.push(Vec::from_slice(alloc, &R)?)?;
     Ok(MemFiles::new(alloc, names, contents, Vec::new(alloc)))
-}
-
-/// The bytes of the class that calls itself.
-pub(crate) fn recursive() -> &'static [u8] {
-    &R
 }
 
 /// A sink that nothing is asked of.
@@ -81,8 +57,8 @@ fn sink(alloc: Global) -> Result<MemSink, Fail> {
     }
 }
 
-/// What the top call keeps of these words.
-pub(crate) fn session_kept(alloc: Global, words: &[&str]) -> Result<Kept, Fail> {
+/// The session that the top call keeps of these words.
+pub(crate) fn session_kept(alloc: Global, words: &[&str]) -> Result<Box<Session>, Fail> {
     let words = bytes_of(alloc, words)?;
     let mut devices = Devices {
         files: files(alloc)?,
@@ -94,15 +70,7 @@ pub(crate) fn session_kept(alloc: Global, words: &[&str]) -> Result<Kept, Fail> 
     let mut kept = None;
     let _status = jfluid(alloc, Ok(words), &mut devices, &mut kept);
     match kept {
-        Some(kept) => Ok(kept),
+        Some(kept) => Ok(kept.session),
         None => Err("nothing is kept".into()),
     }
-}
-
-/// Makes steps of a session that is not far yet.
-pub(crate) fn advance(session: &mut Session, steps: u64) -> Option<Run> {
-    if session.clock() > 1000 || steps > 1000 {
-        return None;
-    }
-    Some(session.advance(steps))
 }

@@ -7,6 +7,4 @@ mod kept;
 #[cfg(test)]
 mod of_acts;
 #[cfg(test)]
-mod of_recursion;
-#[cfg(test)]
 mod of_trees;

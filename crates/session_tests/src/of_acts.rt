@@ -1,6 +1,7 @@
-//! Which actions a session refuses, and when.
+//! Which actions a session refuses, and when. What becomes of those that it accepts, and the trees, are rows of
+//! worked_rows (images, plans and roots).
 
-use crate::kept::{advance, session_kept};
+use crate::kept::session_kept;
 use jvm_model::Mark;
 use profile_session::{ActError, Run, Session};
 use std::test::Fail;
@@ -16,48 +17,40 @@ fn act(session: &mut Session, select: bool, method: u32) -> Result<Result<(), Ac
     Ok(session.deselect(method))
 }
 
-#[test]
-fn what_is_so_already_is_refused(rt: HostRuntime) -> Result<(), Fail> {
-    let words = [
-        "jfluid", "--main", "P1", "--root", "P1.f(I)I", "--budget", "3", "P1.class",
-    ];
-    let mut kept = session_kept(rt.alloc(), &words)?;
-    let session = &mut *kept.session;
-    let Some(root) = session.program().acts.get(0).copied() else {
-        return Err("no root".into());
-    };
-    let (f, main) = (root.method, session.program().main);
-    assert_eq!(rt; act(session, true, f)?, Err(ActError::AlreadySelected));
-    assert_eq!(rt; act(session, false, main)?, Err(ActError::NotSelected));
-    assert_eq!(rt; (session.clock(), session.swaps().len()), (3, 1));
-    assert_eq!(rt;
-        (session.mark(f), session.mark(main)),
-        (Mark::Root, Mark::Off)
-    );
-    assert_eq!(rt; act(session, false, f)?, Ok(()));
-    assert_eq!(rt; act(session, false, f)?, Err(ActError::NotSelected));
-    assert_eq!(rt; (session.mark(f), session.swaps().len()), (Mark::Off, 2));
-    assert_eq!(rt; act(session, true, f)?, Ok(()));
-    assert_eq!(rt; (session.mark(f), session.swaps().len()), (Mark::Root, 3));
-    Ok(())
+/// Whether the run ends within 100 steps.
+fn ends(session: &mut Session) -> bool {
+    session.clock() <= 1000 && session.advance(100) == Run::Ended
 }
 
 #[test]
-fn behind_the_end_all_are_refused(rt: HostRuntime) -> Result<(), Fail> {
+fn what_is_so_already_and_what_comes_behind_the_end(rt: HostRuntime) -> Result<(), Fail> {
     let words = [
         "jfluid", "--main", "P1", "--root", "P1.f(I)I", "--budget", "3", "P1.class",
     ];
-    let mut kept = session_kept(rt.alloc(), &words)?;
-    let session = &mut *kept.session;
+    let mut session = session_kept(rt.alloc(), &words)?;
+    let session = &mut *session;
     let Some(root) = session.program().acts.get(0).copied() else {
         return Err("no root".into());
     };
     let (f, main) = (root.method, session.program().main);
-    assert_eq!(rt; advance(session, 100), Some(Run::Ended));
-    assert_eq!(rt; act(session, true, f)?, Err(ActError::Ended));
-    assert_eq!(rt; act(session, false, f)?, Err(ActError::Ended));
-    assert_eq!(rt; act(session, true, main)?, Err(ActError::Ended));
-    assert_eq!(rt; (session.clock(), session.swaps().len()), (9, 1));
+    // Each action, what is answered, the mark of f behind it, and how many swaps there are then.
+    let acts = [
+        (true, f, Err(ActError::AlreadySelected), Mark::Root, 1),
+        (false, main, Err(ActError::NotSelected), Mark::Root, 1),
+        (false, f, Ok(()), Mark::Off, 2),
+        (false, f, Err(ActError::NotSelected), Mark::Off, 2),
+        (true, f, Ok(()), Mark::Root, 3),
+    ];
+    for (select, method, answer, mark, swaps) in acts {
+        assert_eq!(rt; act(session, select, method)?, answer);
+        assert_eq!(rt; (session.mark(f), session.swaps().len()), (mark, swaps));
+    }
+    assert_eq!(rt; (session.clock(), session.mark(main)), (3, Mark::Off));
+    assert!(rt; ends(session));
+    for (select, method) in [(true, f), (false, f), (true, main)] {
+        assert_eq!(rt; act(session, select, method)?, Err(ActError::Ended));
+    }
+    assert_eq!(rt; (session.clock(), session.swaps().len()), (9, 3));
     assert_eq!(rt; session.output(), b"42\n".as_slice());
     Ok(())
 }

@@ -1,10 +1,9 @@
 //! Classes that are written out: made as bytes, read, and put before the built-in ones.
 
-ghost use Rattle.std.specs.Prelude.{IfSome, IsTrue};
+ghost use Rattle.std.specs.Prelude.{IfSome};
 ghost use Rattle.std.specs.List.{AllByRecursion};
 ghost use Rattle.const_pool.specs.ClassFile.{IsClassFile};
 ghost use Rattle.class_index.specs.Indices.{IsLinkable};
-ghost use Rattle.class_linker.specs.Linkers.{IsLoaded};
 
 use base_classes::built_in;
 use class_linker::Linker;
@@ -13,19 +12,10 @@ use const_pool::ClassFile;
 use jf_bytes::{NoMemory, Seq, Text16};
 use jvm_model::Program;
 use std::alloc::Global;
-use std::test::Fail;
 use text_coding::from_utf8;
 
-/// A class: its flags, its name, its superclass's, its superinterfaces', its fields and its methods. A field or a
-/// method is its flags, its name and its descriptor with spaces between.
-pub(super) type Shape = (
-    u16,
-    &'static str,
-    &'static str,
-    &'static [&'static str],
-    &'static [&'static str],
-    &'static [&'static str],
-);
+/// A class without members: its flags, its name, its superclass's and its superinterfaces'.
+pub(super) type Shape = (u16, &'static str, &'static str, &'static [&'static str]);
 
 pub(super) const OBJECT: &str = "java/lang/Object";
 
@@ -70,24 +60,6 @@ fn put_classes(bytes: &mut Vec<u8>, at: u16, names: &[&str]) -> Result<u16, NoMe
     Ok(at)
 }
 
-/// The flags, the name and the descriptor of a member.
-fn parts_of(item: &str) -> (u16, &str, &str) {
-    let mut words = item.split(' ');
-    let access = words.next().unwrap_or("").parse().unwrap_or(0);
-    let name = words.next().unwrap_or("");
-    (access, name, words.next().unwrap_or(""))
-}
-
-/// Puts the names and descriptors of members.
-fn put_texts(bytes: &mut Vec<u8>, items: &[&str]) -> Result<(), NoMemory> {
-    for item in items {
-        let (_, name, descriptor) = parts_of(item);
-        put_text(bytes, name)?;
-        put_text(bytes, descriptor)?;
-    }
-    Ok(())
-}
-
 /// Puts the indices of so many classes, from the third one of the pool on.
 fn put_indices(bytes: &mut Vec<u8>, count: usize) -> Result<(), NoMemory> {
     let mut index: u16 = 6;
@@ -99,37 +71,18 @@ fn put_indices(bytes: &mut Vec<u8>, count: usize) -> Result<(), NoMemory> {
     Ok(())
 }
 
-/// Puts members, of which the first one's name stands at this index. Gives the index behind their texts.
-fn put_members(bytes: &mut Vec<u8>, at: u16, items: &[&str]) -> Result<u16, NoMemory> {
-    let mut at = at;
-    put_count(bytes, items.len())?;
-    for item in items {
-        let (access, _, _) = parts_of(item);
-        put_number(bytes, access)?;
-        put_number(bytes, at)?;
-        put_number(bytes, at.saturating_add(1))?;
-        put_number(bytes, 0)?;
-        at = at.saturating_add(2);
-    }
-    Ok(at)
-}
-
 /// The bytes of a class of version 49.0.
 fn bytes_of(alloc: Global, shape: &Shape) -> Result<Vec<u8>, NoMemory> {
-    let (access, name, above, interfaces, fields, methods) = shape;
+    let (access, name, above, interfaces) = shape;
     let mut pool = Vec::new(alloc);
     let at = put_classes(&mut pool, 1, &[name, above])?;
     let at = put_classes(&mut pool, at, interfaces)?;
-    put_texts(&mut pool, fields)?;
-    put_texts(&mut pool, methods)?;
     let mut body = Vec::new(alloc);
     for number in [*access, 2, 4] {
         put_number(&mut body, number)?;
     }
     put_indices(&mut body, interfaces.len())?;
-    let at = put_members(&mut body, at, fields)?;
-    let at = put_members(&mut body, at, methods)?;
-    put_number(&mut body, 0)?;
+    body.extend_from_slice(&[0, 0, 0, 0, 0, 0])?;
     let mut bytes = Vec::from_slice(alloc, b"\xCA\xFE\xBA\xBE\0\0\0\x31")?;
     put_number(&mut bytes, at)?;
     bytes.extend_from_slice(pool.as_slice())?;
@@ -153,51 +106,6 @@ fn classes_of(alloc: Global, shapes: &[Shape]) -> Option<Vec<ClassFile>>
     let mut classes = Vec::new(alloc);
     for shape in shapes {
         classes.push(class_of(alloc, shape)?).ok()?;
-    }
-    Some(classes)
-}
-
-// ---- class files in hexadecimal
-
-/// What a digit stands for; nothing else is asked.
-fn digit(character: u8) -> u8 {
-    if character < 97 {
-        character & 15
-    } else {
-        (character & 15).saturating_add(9)
-    }
-}
-
-/// The bytes that are spelled by two digits each.
-fn bytes_in(alloc: Global, digits: &str) -> Result<Vec<u8>, NoMemory> {
-    let mut bytes = Vec::new(alloc);
-    let mut high: Option<u8> = None;
-    for character in digits.as_bytes() {
-        high = match high {
-            None => Some(digit(*character)),
-            Some(first) => {
-                bytes.push(first << 4 | digit(*character))?;
-                None
-            }
-        };
-    }
-    Ok(bytes)
-}
-
-fn class_in(alloc: Global, digits: &str) -> Option<ClassFile>
-    ensures { IfSome result IsClassFile }
-{
-    let bytes = bytes_in(alloc, digits).ok()?;
-    read_class(alloc, bytes.as_slice()).ok()
-}
-
-#[tactic(auto, using(crate::proofs::Lists::all_more))]
-fn classes_in(alloc: Global, files: &[&str]) -> Option<Vec<ClassFile>>
-    ensures { IfSome result (λ classes. AllByRecursion IsClassFile classes.items) }
-{
-    let mut classes = Vec::new(alloc);
-    for digits in files {
-        classes.push(class_in(alloc, digits)?).ok()?;
     }
     Some(classes)
 }
@@ -241,25 +149,6 @@ pub(super) fn shaped_program(alloc: Global, shapes: &[Shape]) -> Option<Program>
     program_of(alloc, classes_of(alloc, shapes)?)
 }
 
-/// A program of the classes of these files and the built-in ones.
-fn read_program(alloc: Global, files: &[&str]) -> Option<Program>
-    ensures { IfSome result IsLinkable }
-{
-    program_of(alloc, classes_in(alloc, files)?)
-}
-
-/// A linker for these classes and the built-in ones.
-pub(super) fn linker_of(alloc: Global, shapes: &[Shape]) -> Result<Linker, Fail> {
-    let program = shaped_program(alloc, shapes).ok_or("a program")?;
-    Ok(Linker::new(alloc, program)?)
-}
-
-/// A linker for the classes of these files and the built-in ones.
-pub(super) fn linker_over(alloc: Global, files: &[&str]) -> Result<Linker, Fail> {
-    let program = read_program(alloc, files).ok_or("class files")?;
-    Ok(Linker::new(alloc, program)?)
-}
-
 // ---- names
 
 pub(super) fn text(alloc: Global, ascii: &str) -> Result<Text16, NoMemory> {
@@ -267,7 +156,7 @@ pub(super) fn text(alloc: Global, ascii: &str) -> Result<Text16, NoMemory> {
 }
 
 /// Whether the class at this position has this name.
-pub(super) fn is_named(linker: &Linker, class: u32, name: &str) -> bool {
+fn is_named(linker: &Linker, class: u32, name: &str) -> bool {
     match linker.program().classes.get(class as usize) {
         Some(file) => match file.pool.class_name(file.this_class) {
             Ok(own) => own.is_bytes(name.as_bytes()),
@@ -288,20 +177,4 @@ pub(super) fn are_named(linker: &Linker, classes: &[u32], names: &[&str]) -> boo
         }
     }
     true
-}
-
-/// The position of the loaded class of this name, or one that no class has.
-pub(super) fn class_named(linker: &Linker, name: &str) -> u32 {
-    for class in linker.loaded() {
-        if is_named(linker, *class, name) {
-            return *class;
-        }
-    }
-    u32::MAX
-}
-
-pub(super) fn is_loaded(linker: &Linker, class: u32) -> bool
-    ensures { IsTrue result → IsLoaded linker.now class }
-{
-    linker.loaded().contains(&class)
 }

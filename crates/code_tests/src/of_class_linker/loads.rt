@@ -1,27 +1,26 @@
 //! What loading names gives one after another, and which classes are loaded in the end.
 
-use super::classes::{CLASS, INTERFACE, OBJECT, Shape, are_named, linker_of, text};
+use super::classes::{CLASS, INTERFACE, OBJECT, Shape, are_named};
 use base_classes::built_in_name;
 use class_linker::{Linker, Loaded};
 use jf_bytes::Text16;
-use std::test::Fail;
 
 /// Own is its own superclass. P extends Q, which implements J, of which P is a superinterface.
 static SHAPES: [Shape; 14] = [
-    (CLASS, "A", OBJECT, &[], &[], &[]),
-    (INTERFACE, "Face", OBJECT, &[], &[], &[]),
-    (CLASS, "K", OBJECT, &[], &[], &[]),
-    (CLASS, "Low", "Gone", &[], &[], &[]),
-    (CLASS, "Odd", OBJECT, &["[LA;"], &[], &[]),
-    (CLASS, "OnFace", "Face", &[], &[], &[]),
-    (CLASS, "Own", "Own", &[], &[], &[]),
-    (CLASS, "P", "Q", &[], &[], &[]),
-    (CLASS, "Q", OBJECT, &["Face", "J"], &[], &[]),
-    (INTERFACE, "J", OBJECT, &["P"], &[], &[]),
-    (CLASS, "Sub", "A", &["K"], &[], &[]),
-    (CLASS, "Lost", "A", &["Face", "Gone"], &[], &[]),
-    (CLASS, "B", "A", &["Face"], &[], &[]),
-    (CLASS, "p/C", "B", &[], &[], &[]),
+    (CLASS, "A", OBJECT, &[]),
+    (INTERFACE, "Face", OBJECT, &[]),
+    (CLASS, "K", OBJECT, &[]),
+    (CLASS, "Low", "Gone", &[]),
+    (CLASS, "Odd", OBJECT, &["[LA;"]),
+    (CLASS, "OnFace", "Face", &[]),
+    (CLASS, "Own", "Own", &[]),
+    (CLASS, "P", "Q", &[]),
+    (CLASS, "Q", OBJECT, &["Face", "J"]),
+    (INTERFACE, "J", OBJECT, &["P"]),
+    (CLASS, "Sub", "A", &["K"]),
+    (CLASS, "Lost", "A", &["Face", "Gone"]),
+    (CLASS, "B", "A", &["Face"]),
+    (CLASS, "p/C", "B", &[]),
 ];
 
 pub(super) fn shapes() -> &'static [Shape] {
@@ -130,16 +129,4 @@ static IN_THE_END: [&str; 9] = [
 
 pub(super) fn in_the_end() -> &'static [&'static str] {
     &IN_THE_END
-}
-
-#[test]
-fn loads_in_turn(rt: HostRuntime) -> Result<(), Fail> {
-    let alloc = rt.alloc();
-    let mut linker = linker_of(alloc, shapes())?;
-    for (name, wanted) in loads() {
-        let given = linker.load(&text(alloc, name)?);
-        assert!(rt; is_wanted(&linker, &given, wanted), "of {name}");
-    }
-    assert!(rt; are_named(&linker, linker.loaded(), in_the_end()));
-    Ok(())
 }

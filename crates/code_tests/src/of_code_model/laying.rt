@@ -1,13 +1,25 @@
-//! Layouts: the worked ones, and the limits of branches and of lengths.
+//! The limits of branches and of lengths.
 
 ghost use Rattle.std.specs.Prelude.{◌≡◌, IfOk, All};
 ghost use Rattle.code_model.specs.Groups.{instrs_of, IsShort};
 
-use super::worked::{ENTRY, GOTO, ICONST_0, IRETURN, LAYOUTS, LEAVING, Layout, RETURN, UNWINDING};
 use code_model::{Group, Instr, Laid, LayError, decode, lay_out};
 use jf_bytes::{NoMemory, Seq};
 use std::alloc::Global;
 use std::test::*;
+
+/// What a root's version has in front and behind, and in front of each return.
+const ENTRY: [u8; 6] = [0x11, 0, 0, 0xB8, 0, 0x1D];
+
+const LEAVING: [u8; 6] = [0x11, 0, 0, 0xB8, 0, 0x23];
+
+const UNWINDING: [u8; 7] = [0x11, 0, 0, 0xB8, 0, 0x26, 0xBF];
+
+const ICONST_0: u8 = 0x03;
+
+const RETURN: u8 = 0xB1;
+
+const GOTO: u8 = 0xA7;
 
 /// What goes in front of an instruction: these bytes, if it has this opcode.
 fn front_of(alloc: Global, instr: &Instr, op: u8, before: &[u8]) -> Result<Seq<u8>, NoMemory>
@@ -61,23 +73,6 @@ fn lay(
     };
     let groups = groups_of(alloc, code.instrs, op, before)?;
     lay_out(alloc, front, groups.as_slice(), back)
-}
-
-/// Whether a code with its probes is laid out so.
-fn is_laid_out(alloc: Global, layout: &Layout) -> bool {
-    match lay(alloc, layout.source, &ENTRY, IRETURN, &LEAVING, &UNWINDING) {
-        Ok(laid) => laid.code.as_slice() == layout.code
-            && laid.homes.home.as_slice() == layout.home
-            && laid.homes.place.as_slice() == layout.place,
-        Err(_) => false,
-    }
-}
-
-#[test]
-fn lays_out_worked_codes(rt: HostRuntime) {
-    for layout in &LAYOUTS {
-        assert!(rt; is_laid_out(rt.alloc(), layout));
-    }
 }
 
 /// A code of nop with a goto and with one iconst_0, which gets six bytes in front.

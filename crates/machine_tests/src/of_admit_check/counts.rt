@@ -1,14 +1,55 @@
 //! A class with as many methods with Code as a program may have, and with one more; and as many classes as it may have.
 
-ghost use Rattle.std.specs.Prelude.{IfSome};
+ghost use Rattle.std.specs.Prelude.{◌≤◌, length, IfSome};
 ghost use Rattle.std.specs.List.{AllByRecursion};
 ghost use Rattle.const_pool.specs.ClassFile.{IsClassFile};
 
-use super::classes::{answer, answer_for, answer_shown, class, put};
+use admit_check::admit;
+use class_reader::read_class;
+use code_admission::AdmitError;
 use const_pool::ClassFile;
-use jf_bytes::{NoMemory, Seq};
+use jf_bytes::{NoMemory, Seq, Text16};
+use plan_text::Plan;
 use std::alloc::Global;
 use std::test::Fail;
+
+fn put(bytes: &mut Vec<u8>, more: &[u8]) -> Result<(), NoMemory> {
+    bytes.extend_from_slice(more)?;
+    Ok(())
+}
+
+/// The class of these bytes; None where there is no memory, or they are no class file.
+fn class(alloc: Global, bytes: &[u8]) -> Option<ClassFile>
+    ensures { IfSome result IsClassFile }
+{
+    read_class(alloc, bytes).ok()
+}
+
+/// The list of one class.
+fn list(alloc: Global, bytes: &[u8]) -> Option<Seq<ClassFile>>
+    ensures formed { IfSome result (AllByRecursion IsClassFile) }
+    ensures count { IfSome result (λ classes. length classes ≤ 4096) }
+{
+    let mut classes = Seq::new(alloc);
+    classes.push(class(alloc, bytes)?).ok()?;
+    Some(classes)
+}
+
+/// Why a program of at most 4,096 classes with the main class A is refused.
+fn fault_of(alloc: Global, classes: Seq<ClassFile>) -> Result<Option<AdmitError>, Fail>
+    requires formed { AllByRecursion IsClassFile classes }
+    requires count { length classes ≤ 4096 }
+{
+    let main = Text16::new(Vec::from_slice(alloc, &[65])?);
+    let plan = Plan {
+        main: None,
+        args: Seq::new(alloc),
+        budget: None,
+        heap: None,
+        actions: Seq::new(alloc),
+    };
+    Ok(admit(alloc, classes, &main, &plan).err())
+}
 
 /// Version 49.0.
 const HEADING: &[u8] = b"\xCA\xFE\xBA\xBE\0\0\0\x31";
@@ -60,15 +101,20 @@ fn class_bytes(alloc: Global, count: u16) -> Result<Vec<u8>, NoMemory> {
     Ok(bytes)
 }
 
+/// What is told of a class with so many methods with Code.
+fn fault_of_methods(alloc: Global, count: u16) -> Result<Option<AdmitError>, Fail> {
+    let bytes = class_bytes(alloc, count)?;
+    let classes = list(alloc, bytes.as_slice()).ok_or("a class")?;
+    fault_of(alloc, classes)
+}
+
 /// The built-in classes have seven methods with Code.
 #[test]
 fn too_many_methods(rt: HostRuntime) -> Result<(), Fail> {
-    let alloc = rt.alloc();
-    for (count, wanted) in [(32_761, "NoMain"), (32_762, "TooManyMethods(32769)")] {
-        let bytes = class_bytes(alloc, count)?;
-        let told = answer_shown(alloc, answer(alloc, bytes.as_slice(), &[], "")?)?;
-        assert_eq!(rt; told.as_str(), wanted);
-    }
+    let most = fault_of_methods(rt.alloc(), 32_761)?;
+    assert!(rt; matches!(most, Some(AdmitError::NoMain)));
+    let more = fault_of_methods(rt.alloc(), 32_762)?;
+    assert!(rt; matches!(more, Some(AdmitError::TooManyMethods(32_769))));
     Ok(())
 }
 
@@ -113,10 +159,9 @@ fn named_classes(alloc: Global, count: u16) -> Option<Seq<ClassFile>>
 /// None of them is the main class; two that agree would be told.
 #[test]
 fn as_many_classes_as_there_may_be(rt: HostRuntime) -> Result<(), Fail> {
-    let alloc = rt.alloc();
-    let classes = named_classes(alloc, 4096).ok_or("classes")?;
+    let classes = named_classes(rt.alloc(), 4096).ok_or("classes")?;
     assert_eq!(rt; classes.len(), 4096);
-    let told = answer_shown(alloc, answer_for(alloc, classes, "")?)?;
-    assert_eq!(rt; told.as_str(), "NoMain");
+    let told = fault_of(rt.alloc(), classes)?;
+    assert!(rt; matches!(told, Some(AdmitError::NoMain)));
     Ok(())
 }
