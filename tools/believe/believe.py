@@ -46,10 +46,10 @@ def all_calls(crates):
 def headline_part(crates, call, reached, everything):
     """The clauses of the headline, and how much has to be believed of them."""
     found = [it for it in reached.definitions.values() if it.place.path.endswith(".antt")]
-    lines, of_all = sum(it.lines for it in found), sum(it.lines for it in everything)
+    lines, whole = sum(it.lines for it in found), sum(it.lines for it in everything)
     return ["## What is promised", "", f"By `{call.name}` (`crates/{call.place.path}`):", "",
             *contract_part(crates, call),
-            f"All below explains these words: {len(found)} of {len(everything)} definitions, in {lines} of {of_all} lines, "
+            f"All below explains these words: {len(found)} of {len(everything)} definitions, in {lines} of {whole} lines, "
             f"and {len(reached.definitions) - len(found)} types of the code.", ""]
 
 
