@@ -49,8 +49,8 @@ def headline_part(crates, call, reached, everything):
     lines, whole = sum(it.lines for it in found), sum(it.lines for it in everything)
     return ["## What is promised", "", f"By `{call.name}` (`crates/{call.place.path}`):", "",
             *contract_part(crates, call),
-            f"All below explains these words: {len(found)} of {len(everything)} definitions, in {lines} of {whole} lines, "
-            f"and {len(reached.definitions) - len(found)} types of the code.", ""]
+            f"All below explains these words: {len(found)} of {len(everything)} definitions, in {lines} of {whole} "
+            f"lines, and {len(reached.definitions) - len(found)} types of the code.", ""]
 
 
 def reached_part(crates, reached):
