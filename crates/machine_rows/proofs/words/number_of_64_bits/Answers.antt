@@ -1,8 +1,0 @@
-use Rattle.machine_rows.proofs.NumberLemmas.{no-number, number-read}
-use Rattle.machine_rows.proofs.words.number_of_64_bits.Goals as goal
-
-pub returns-in-Ok : goal.returns-in-Ok
-returns-in-Ok c = number-read 64 c.args.word.now c.in-Ok.number c.in-Ok.ensures.value.0
-
-pub returns-in-Err : goal.returns-in-Err
-returns-in-Err c = no-number 64 c.args.word.now c.in-Err.ensures.value.0

@@ -1,0 +1,5 @@
+mod FoundLemmas
+mod ListLemmas
+mod WordLemmas
+mod MachineLemmas
+mod RevelationLemmas

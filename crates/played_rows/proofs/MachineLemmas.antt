@@ -1,0 +1,10 @@
+pub mod Images
+pub mod JudgingLemmas
+pub mod MakingLemmas
+pub mod NameLemmas
+pub mod NumberLemmas
+pub mod Otherwise
+pub mod Plays
+pub mod ReadingLemmas
+pub mod SayingLemmas
+pub mod Stays

@@ -1,9 +1,0 @@
--- what comes of the items that are left comes of all
-use Rattle.std.proofs.Common.{drop}
-use Rattle.revelation_rows.specs.Rows.{first}
-use Rattle.revelation_rows.proofs.RowLemmas.{IsGoing}
-use Rattle.revelation_rows.proofs.playing.play_all.Given as goal
-
-abbrev pub invariant-loop-item : goal.invariant-loop-item
-invariant-loop-item g l =
-    IsGoing l.fn.scene.linker.program l.items (first l.fn.scene.linker.loaded) l.scene.linker l.scene.reveal (drop l.item-index l.items)

@@ -1,7 +1,0 @@
--- no method so far is marked
-use Rattle.std.proofs.Common.{◌≡◌, map, take}
-use Rattle.jvm_model.specs.declared.event.Mark.TheVariants.{Off}
-use Rattle.revelation_rows.proofs.reading.no_marks.Given as goal
-
-abbrev pub invariant-loop-place : goal.invariant-loop-place
-invariant-loop-place l = l.marks.items ≡ map (λ place. Off) (take l._place-index l.program.methods)

@@ -1,9 +1,0 @@
-use Rattle.std.proofs.Common.{refl}
-use Rattle.revelation_rows.specs.declared.item.Happening.TheVariants.{Deselected}
-use Rattle.revelation_rows.proofs.HappeningLemmas.{if-happened}
-use Rattle.revelation_rows.proofs.scenes.deselect.Goals as goal
-
-pub returns : goal.returns
-returns c =
-    if-happened (Deselected c.args.method) c.args.linker.now c.args.reveal.now c.deselected.new.self c.deselected.result c.requires
-    (c.deselected.ensures.revelation c.args.linker.now.program c.requires.along.revelation) refl refl c.deselected.ensures.now c.deselected.ensures.shown

@@ -1,3 +1,0 @@
-pub mod FoundLemmas
-pub mod ListLemmas
-pub mod WordLemmas
