@@ -1,5 +1,5 @@
 -- When a class file is rewritten, what was put of its image, and how a refusal is told.
-use Rattle.std.specs.Prelude.{◌≡◌, ◌≢◌, ◌⊎◌, ℕ, List, [], length, Option, Some, None, codes}
+use Rattle.std.specs.Prelude.{◌≡◌, ◌≢◌, ◌⊎◌, ℕ, List, [], length, Option, Some, None, IsSome, codes}
 use Rattle.byte_streams.specs.Streams.{Told, IsFetched}
 use Rattle.const_pool.specs.declared.class.ClassFile.{ClassFile}
 use Rattle.const_pool.specs.ClassFile.{class_bytes}
@@ -39,8 +39,9 @@ IsNotAdmitted bytes = (class : ClassFile) × IsFile bytes class × (class_fault 
 abbrev pub AreNoMarks : ClassFile → List Mark → Type 0
 AreNoMarks class marks = (length marks ≢ length class.methods) ⊎ (MarkedHaveCode marks class.methods → ⊥)
 
+-- admission comes first
 abbrev pub IsNotMarked : List ℕ → List Mark → Type 0
-IsNotMarked bytes marks = (class : ClassFile) × IsFile bytes class × AreNoMarks class marks
+IsNotMarked bytes marks = (class : ClassFile) × IsAdmittedFile bytes class × AreNoMarks class marks
 
 -- what a refusal says of the bytes of a file
 abbrev pub IsRefusal : List ℕ → ℕ → List Mark → ImageError → Type 0
@@ -93,14 +94,19 @@ pub record IsFileRefused (told : Option Told) (name first marks : List ℕ) (err
   pub lettered : marks_said marks ≡ Some letters
   pub refused : IsFileRefusal told name number letters error
 
+-- What each refusal says, in the order in which they are tried: FIRST is no number; it is one, and the letters are no
+-- marks; both are, and the file is no class file, or is one that is not admitted, or is admitted and its methods cannot
+-- have the marks. So no two of these hold of one file whose contents are told, and none holds where an image was put.
+-- Memory is asked for behind the number alone.
 abbrev pub IsTold : Option Told → List ℕ → List ℕ → List ℕ → ImageError → Type 0
 IsTold told name first marks NotNumbered = first_said first ≡ None
-IsTold told name first marks NotMarked = (marks_said marks ≡ None) ⊎ IsFileRefused told name first marks NotMarked
-IsTold told name first marks NotFetched = Unit {0}
+IsTold told name first marks NotMarked =
+    (IsSome (first_said first) × (marks_said marks ≡ None)) ⊎ IsFileRefused told name first marks NotMarked
+IsTold told name first marks NotFetched = IsSome (first_said first) × IsSome (marks_said marks)
 IsTold told name first marks NotRead = IsFileRefused told name first marks NotRead
 IsTold told name first marks NotAdmitted = IsFileRefused told name first marks NotAdmitted
-IsTold told name first marks NotPut = Unit {0}
-IsTold told name first marks NoMemory = Unit {0}
+IsTold told name first marks NotPut = IsSome (first_said first) × IsSome (marks_said marks)
+IsTold told name first marks NoMemory = IsSome (first_said first)
 
 -- what standard error tells of a refusal
 abbrev pub reason_of : ImageError → List ℕ

@@ -95,6 +95,8 @@ fn fetch<F: Files>(alloc: Global, name: &str, files: &mut F) -> Result<Vec<u8>, 
         IsFetched (F.contents files.old) name.now most_bytes bytes.items) }
     ensures not_fetched { result ≡ Err ImageError.NotFetched
         → Rose (F.faults files.old) (F.faults files.new) }
+    ensures fetched { result ≢ Err ImageError.NotFetched
+        → F.faults files.new ≡ F.faults files.old }
     ensures errors { IfErr result (λ e. (e ≡ ImageError.NotFetched) ⊎ (e ≡ ImageError.NoMemory)) }
 {
     match files.fetch(alloc, name, MOST_BYTES) {
@@ -119,6 +121,8 @@ fn image_of_file<F: Files>(
         (IsFileRefusal (F.contents files.old) name.now first marks.now) }
     ensures not_fetched { result ≡ Err ImageError.NotFetched
         → Rose (F.faults files.old) (F.faults files.new) }
+    ensures fetched { result ≢ Err ImageError.NotFetched
+        → F.faults files.new ≡ F.faults files.old }
     ensures not_put { result ≢ Err ImageError.NotPut }
 {
     let bytes = match fetch(alloc, name, files) {
@@ -138,6 +142,7 @@ fn put_image<O: Sink>(out: &mut O, image: &[u8]) -> Result<(), ImageError>
     ensures only { IfErr result (λ e. e ≡ ImageError.NotPut) }
     ensures not_put { result ≡ Err ImageError.NotPut
         → Rose (O.faults out.old) (O.faults out.new) }
+    ensures fine { result ≢ Err ImageError.NotPut → O.faults out.new ≡ O.faults out.old }
 {
     match out.put(image) {
         Ok(()) => Ok(()),
@@ -165,8 +170,11 @@ pub fn image_file<F: Files, O: Sink>(
     ensures cause { IfErr result (IsTold (F.contents files.old) name.now first.now marks.now) }
     ensures not_fetched { result ≡ Err ImageError.NotFetched
         → Rose (F.faults files.old) (F.faults files.new) }
+    ensures fetched { result ≢ Err ImageError.NotFetched
+        → F.faults files.new ≡ F.faults files.old }
     ensures not_put { result ≡ Err ImageError.NotPut
         → Rose (O.faults out.old) (O.faults out.new) }
+    ensures fine { result ≢ Err ImageError.NotPut → O.faults out.new ≡ O.faults out.old }
 {
     let Some(number) = first_of(first) else {
         return Err(ImageError::NotNumbered);

@@ -1,5 +1,5 @@
 -- How a session takes the actions of its program's plan at their moments, one slice after the other.
-use Rattle.std.specs.Prelude.{◌≡◌, ℕ, ◌<◌, ◌≤◌, true, false, not, List, [], ◌∷◌, ◌++◌, length, take, drop, Some, slice_get, IfSome}
+use Rattle.std.specs.Prelude.{◌≡◌, ℕ, ◌<◌, ◌≤◌, true, false, not, Bool, List, [], ◌∷◌, ◌++◌, length, take, drop, Option, Some, slice_get, IfSome}
 use Rattle.std.specs.List.{AllByRecursion}
 use Rattle.plan_text.specs.declared.plan.Action.{Action}
 use Rattle.plan_text.specs.Lines.{selected_after}
@@ -9,7 +9,8 @@ use Rattle.jvm_model.specs.Classes.Load.{is_among}
 use Rattle.jvm_model.specs.Profiling.Points.{methods_selected}
 use Rattle.profile_session.specs.Sessions.{LiveRunOn, Profiling}
 use Rattle.jfluid_cli.specs.declared.running.Reached.{Reached}
-use Rattle.jfluid_cli.specs.Runs.{IsPlanned, is_ended_at}
+use Rattle.byte_streams.specs.Streams.{PutsPrefix}
+use Rattle.jfluid_cli.specs.Runs.{IsPlanned, RanFor, is_ended_at, output_at, slice_end, written_between}
 
 -- ---- which actions can be taken
 
@@ -74,6 +75,8 @@ pub record GoesOn (old new : Profiling) (budget : ℕ) (r : Reached) : Type 0 wh
   pub same : new ≡ record old { acts = new.acts; started = true; clock = new.clock; gathered = false; live = new.live }
   pub some : old.clock < new.clock
   pub most : new.clock ≤ budget
+  pub end : new.clock ≤ slice_end old.program.acts budget old.clock
+  pub whole : r.ended ≡ false → new.clock ≡ slice_end old.program.acts budget old.clock
   pub answer : is_ended_at old new.clock ≡ r.ended
   pub first : (m : ℕ) → m < new.clock → is_ended_at old m ≡ false
   pub along : IsAlong new r.next
@@ -87,3 +90,23 @@ pub record Begins (old new : Profiling) (r : Reached) : Type 0 where
   pub along : IsAlong new r.next
   pub planned : IsPlanned new
   pub live : LiveRunOn new
+
+-- ---- where a put of output failed
+
+-- The steps were made, and of what they wrote a front was put.
+pub record IsCutSlice (old new : Profiling) (steps : ℕ) (o n : Option (List ℕ)) : Type 0 where
+  pub ended : Bool
+  pub ran : RanFor old new steps ended
+  pub put : PutsPrefix o n (written_between old old.clock new.clock)
+
+-- The actions that were due were taken and the slice behind them was made, and of what it wrote a front was put.
+pub record IsCutOn (old new : Profiling) (budget : ℕ) (o n : Option (List ℕ)) : Type 0 where
+  pub reached : Reached
+  pub goes : GoesOn old new budget reached
+  pub put : PutsPrefix o n (written_between old old.clock new.clock)
+
+-- The start was made, and of what it wrote a front was put.
+pub record IsCutBegin (old new : Profiling) (o n : Option (List ℕ)) : Type 0 where
+  pub reached : Reached
+  pub begins : Begins old new reached
+  pub put : PutsPrefix o n (output_at old 0)

@@ -15,7 +15,7 @@ use Rattle.jfluid_cli.specs.Causes.{CallInputs, HasBadPlan, HasLongInput, HasNoR
 use Rattle.jfluid_cli.specs.Images.{IsImaged, IsUnimaged, images_of}
 use Rattle.jfluid_cli.specs.Origins.{HasOrigin, IsOnlyProgram}
 use Rattle.jfluid_cli.specs.Refusals.{status_of, refusal_line}
-use Rattle.jfluid_cli.specs.Runs.{IsCarriedOut, PutsAtMost, ending_at, world_on}
+use Rattle.jfluid_cli.specs.Runs.{IsCarriedOut, IsCutOff, PutsAtMost, ending_at, world_on}
 use Rattle.jfluid_cli.specs.Sinks.{DevicesView, SinkView, FailsOnce, IsUntold, PutsOrRose}
 use Rattle.jfluid_cli.specs.Top.{IsWithoutFault, is_run, is_refused, is_unadmitted, is_status, report_of, status_of_ending}
 use Rattle.jfluid_cli.specs.Words.{words_accepted, asks_images, budget_of, file_words, is_generated, plan_word, words_in}
@@ -129,6 +129,11 @@ pub record IsRefused (c : Call) (r : Refusal) : Type 0 where
       FailsOnce (plan_word (words_of c)) (file_words (words_of c)) c.old.files c.new.files
   pub not_taken : status_of r ≡ 5 → Rose c.old.input.faults c.new.input.faults
   pub stopped : status_of r ≡ 6 → Rose c.old.out.faults c.new.out.faults
+  -- the put that failed is that of the start or of the last slice, and all that was written before was put
+  pub cut :
+      status_of r ≡ 6 →
+      IfSome c.kept
+      (λ k. IsCutOff k.session.value (budget_of (words_of c) k.plan) c.old.out.taken c.new.out.taken)
   -- no image is put behind an output that failed
   pub unshown : status_of r ≡ 6 → IsUntold c.old.images c.new.images
   pub not_fetched : status_of r ≡ 7 → Rose c.old.files.faults c.new.files.faults

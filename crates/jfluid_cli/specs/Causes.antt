@@ -35,14 +35,19 @@ pub record Accepts (g : CallInputs) (k : Command) : Type 0 where
   pub planned : IsPlanFor g.told words (Ok k.plan)
   pub asked : command_for words k.plan ≡ Some k
 
+-- The files tell their contents, where any are fetched: for a generated program they are not, but a plan's.
+abbrev pub TellsFor : Option Told → Option (List ℕ) → Option Generation → Type 0
+TellsFor told (Some plan) generated = IsSome told
+TellsFor told None None = IsSome told
+TellsFor told None (Some generation) = Unit {0}
+
 -- The words and their plan are accepted, and the files tell this program for them, or it is generated.
 pub record IsAdmitted (g : CallInputs) (program : Program) : Type 0 where
   pub command : Command
   pub accepts : Accepts g command
-  pub files : Told
-  pub telling : g.told ≡ Some files
+  pub telling : TellsFor g.told accepts.words.plan command.generated
   pub contents : List (List ℕ)
-  pub told_as : AreContentsOf (Some files) command contents
+  pub told_as : AreContentsOf g.told command contents
   pub program_is : IsProgram (asked_by command) contents program
 
 -- And the input is within its limit.

@@ -1,5 +1,5 @@
 -- What the parts of a call owe one another.
-use Rattle.std.specs.Prelude.{◌≡◌, ◌≢◌, ◌<◌, ℕ, ◌⊎◌, Bool, true, List, ◌∷◌, [], length, take, slice_get, Option, Some, None, Ok, Err, Result, IfOk, IfErr, IsSome}
+use Rattle.std.specs.Prelude.{◌≡◌, ◌≢◌, ◌<◌, ℕ, ◌⊎◌, Bool, true, List, ◌∷◌, [], length, take, slice_get, Option, Some, None, Ok, Err, Result, IfOk, IfErr, IfSome, IsSome}
 use Rattle.byte_streams.specs.Streams.{Told, Rose}
 use Rattle.plan_text.specs.declared.plan.Plan.{Plan}
 use Rattle.plan_text.specs.declared.plan.PlanError.{PlanError}
@@ -20,7 +20,7 @@ use Rattle.jfluid_cli.specs.Calls.{Call, IsTrueOf, IsRunOf, IsRefused}
 use Rattle.jfluid_cli.specs.Causes.{CallInputs, Accepts, AreContentsOf, IsLong, Because}
 use Rattle.jfluid_cli.specs.Contents.{AreFetched, IsFaultAt, SpellAlone, classes_for}
 use Rattle.jfluid_cli.specs.Refusals.{status_of, refusal_of}
-use Rattle.jfluid_cli.specs.Runs.{SameProgram}
+use Rattle.jfluid_cli.specs.Runs.{IsCutOff, SameProgram}
 use Rattle.jfluid_cli.specs.Sinks.{DevicesView, FilesView, SourceView, IsUntold}
 use Rattle.jfluid_cli.specs.Top.{IsProgram, is_one_of}
 use Rattle.jfluid_cli.specs.Words.{Command, words_accepted, AreClaps, AreRefused}
@@ -152,8 +152,9 @@ pub record IsSameRun (made k : Kept) : Type 0 where
   pub plan : k.plan ≡ made.plan
 
 -- A run stopped before its end and its budget, for its output or for want of memory.
-pub record IsStopped (old new : DevicesView) (r : Refusal) : Type 0 where
+pub record IsStopped (kept : Option Kept) (budget : ℕ) (old new : DevicesView) (r : Refusal) : Type 0 where
   pub why : ((r ≡ OutFailed) × Rose old.out.faults new.out.faults) ⊎ (r ≡ NoMemory)
+  pub cut : r ≡ OutFailed → IfSome kept (λ k. IsCutOff k.session.value budget old.out.taken new.out.taken)
   pub untold : IsUntold old.report new.report
   pub unshown : r ≡ OutFailed → IsUntold old.images new.images
 

@@ -61,6 +61,7 @@ fn answer<P: Sink, G: Sink>(
     ensures unshown { let before = sink_view (G.taken images.old) (G.faults images.old) in
         let after = sink_view (G.taken images.new) (G.faults images.new) in
         IfErr result (λ e. e ≡ Refusal.OutFailed → IsUntold before after) }
+    ensures stays { IfErr result (λ e. e ≡ Refusal.OutFailed → session.new ≡ session.old) }
 {
     match outcome {
         Ok(()) => show(alloc, session, summary, asked, images, report),
@@ -87,7 +88,7 @@ fn run_made<F: Files, I: Source, O: Sink, P: Sink, G: Sink>(
     ensures run { let old = devices.old in let new = devices.new in
         MatchResult result
         (λ status. IsSomeAnd kept.new (IsRun summary asked budget old new status))
-        (IsStopped old new) }
+        (IsStopped kept.new budget old new) }
     ensures images { IsSomeAnd kept.new (λ k. let bytes = images_of asked k.session.value in
         PutsPrefix devices.old.images.taken devices.new.images.taken bytes) }
     ensures unasked { asked ≡ false → IsUntold devices.old.images devices.new.images }

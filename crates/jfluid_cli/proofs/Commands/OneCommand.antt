@@ -58,13 +58,22 @@ own-other (Some word) a (TooMany line) left right other = absurd right
 
 -- ---- either
 
-by-one : (told : Option Told) (root named : Option (List ℕ)) (a b : Plan) → IsSome told → IsPlanBy told root named (Ok a)
+-- the file of a plan that is named is told
+abbrev pub TellsPlan : Option Told → Option (List ℕ) → Type 0
+TellsPlan told None = Unit {0}
+TellsPlan told (Some name) = IsSome told
+
+pub tells-plan : (told : Option Told) (named : Option (List ℕ)) → IsSome told → TellsPlan told named
+tells-plan told None tells = tt
+tells-plan told (Some name) tells = tells
+
+by-one : (told : Option Told) (root named : Option (List ℕ)) (a b : Plan) → TellsPlan told named → IsPlanBy told root named (Ok a)
     → IsPlanBy told root named (Ok b) → a ≡ b
 by-one told root None a b tells left right = own-one root a b left right
 by-one None root (Some name) a b tells left right = absurd (let e : false ≡ true = tells in cc)
 by-one (Some files) root (Some name) a b tells left right = same-ok a b (told-one files name (Ok a) (Ok b) left right)
 
-by-other : (told : Option Told) (root named : Option (List ℕ)) (a : Plan) (fault : PlanError) → IsSome told
+by-other : (told : Option Told) (root named : Option (List ℕ)) (a : Plan) (fault : PlanError) → TellsPlan told named
     → IsPlanBy told root named (Ok a) → IsPlanBy told root named (Err fault) → fault ≢ NoMemory → ⊥
 by-other told root None a fault tells left right other = own-other root a fault left right other
 by-other None root (Some name) a fault tells left right other = absurd (let e : false ≡ true = tells in cc)
@@ -77,8 +86,8 @@ same-words : (g : CallInputs) (words others : Read) → words_accepted g.words �
     → words ≡ others
 same-words g words others left right = same_Some words others (sym left ∙ right)
 
-pub one-command : (g : CallInputs) (k l : Command) → IsSome g.told → Accepts g k → Accepts g l → k ≡ l
-one-command g k l tells left right =
+pub one-by : (g : CallInputs) (k l : Command) → Accepts g k → (right : Accepts g l) → TellsPlan g.told right.words.plan → k ≡ l
+one-by g k l left right tells =
     let same : left.words ≡ right.words = same-words g left.words right.words left.read right.read in
     let here : IsPlanFor g.told right.words (Ok k.plan) =
     subst (λ (r : Read). IsPlanFor g.told r (Ok k.plan)) same left.planned in
@@ -88,8 +97,11 @@ one-command g k l tells left right =
     (sym left.asked ∙ (ap (λ (r : Read). command_for r k.plan) same
     ∙ (ap (λ (p : Plan). command_for right.words p) plan ∙ right.asked)))
 
+pub one-command : (g : CallInputs) (k l : Command) → IsSome g.told → Accepts g k → Accepts g l → k ≡ l
+one-command g k l tells left right = one-by g k l left right (tells-plan g.told right.words.plan tells)
+
 -- words that are accepted with their plan are not refused for it
-pub not-misplanned : (g : CallInputs) (words : Read) (k : Command) → IsSome g.told → words_accepted g.words ≡ Some words
+pub not-misplanned : (g : CallInputs) (words : Read) (k : Command) → TellsPlan g.told words.plan → words_accepted g.words ≡ Some words
     → IsMisplanned g.told words → Accepts g k → ⊥
 not-misplanned g words k tells read (inl (fault, is)) accepts =
     let here : IsPlanFor g.told words (Ok k.plan) =

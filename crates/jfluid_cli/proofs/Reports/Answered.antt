@@ -1,5 +1,5 @@
 -- What a run that was carried out leaves to its answer.
-use Rattle.std.proofs.Common.{◌≡◌, ℕ, Bool, List, Option, sym, subst, inl, inr}
+use Rattle.std.proofs.Common.{◌≡◌, ℕ, Bool, List, Option, Some, sym, subst, ◌∙◌, inl, inr}
 use Rattle.std.specs.Prelude.{◌⊎◌, Result, Ok, Err, IfOk, IfErr, IsOk, OnOk, MatchResult}
 use Rattle.std.proofs.lemmas.Bool.{false≢true}
 use Rattle.byte_streams.specs.Streams.{Rose}
@@ -11,7 +11,7 @@ use Rattle.jfluid_cli.specs.declared.refusal.Refusal.TheVariants.{OutFailed, NoM
 use Rattle.jfluid_cli.specs.declared.running.Stop.{Stop}
 use Rattle.jfluid_cli.specs.declared.running.Stop.TheVariants as stop
 use Rattle.jfluid_cli.specs.Calls.{IsRun, IsShown}
-use Rattle.jfluid_cli.specs.Runs.{IsCarriedOut, StopCause}
+use Rattle.jfluid_cli.specs.Runs.{IsCarriedOut, IsCutOff, OnOutFailed, StopCause}
 use Rattle.jfluid_cli.specs.Sinks.{DevicesView, IsUntold}
 use Rattle.jfluid_cli.specs.Stages.{IsStopped}
 
@@ -41,16 +41,25 @@ pub run-answer : {A : Type 0} (r : Result ℕ Refusal) (outcome : Result A Stop)
     → IfErr r (λ e. e ≡ OutFailed → IsUntold old.images new.images)
     → OnOk outcome (IsCarriedOut ran budget old.out.taken new.out.taken)
     → StopCause old.out.faults new.out.faults outcome
-    → MatchResult r (λ status. IsRun summary asked budget old new status k) (IsStopped old new)
-run-answer (Ok status) (Ok x) old new summary asked budget ran k ok gathers shown why unshown carried without_fault = record {
+    → IfErr r (λ e. e ≡ OutFailed → k.session.value ≡ ran)
+    → OnOutFailed outcome (IsCutOff ran budget old.out.taken new.out.taken)
+    → MatchResult r (λ status. IsRun summary asked budget old new status k) (IsStopped (Some k) budget old new)
+run-answer (Ok status) (Ok x) old new summary asked budget ran k ok gathers shown why unshown carried without_fault stays cut = record {
   output = gathered-out ran k.session.value budget old.out.taken new.out.taken gathers carried;
   without_fault = without_fault;
   shown = shown;
 }
-run-answer (Ok status) (Err e) old new summary asked budget ran k ok gathers shown why unshown carried without_fault = absurd (false≢true ok)
-run-answer (Err r) outcome old new summary asked budget ran k ok gathers untold why unshown carried cause =
-    record { why = by_cause why; untold = untold; unshown = unshown }
+run-answer (Ok status) (Err e) old new summary asked budget ran k ok gathers shown why unshown carried without_fault stays cut = absurd (false≢true ok)
+run-answer (Err r) outcome old new summary asked budget ran k ok gathers untold why unshown carried cause stays cut =
+    record { why = by_cause why; cut = by_cut why; untold = untold; unshown = unshown }
   where
+    by_cut : ((r ≡ OutFailed) × (outcome ≡ Err stop.OutFailed)) ⊎ (r ≡ NoMemory) → r ≡ OutFailed
+        → IsCutOff k.session.value budget old.out.taken new.out.taken
+    by_cut (inl (failed, stopped)) is =
+        subst (λ (s : Profiling). IsCutOff s budget old.out.taken new.out.taken) (sym (stays is))
+        (subst (λ o. OnOutFailed o (IsCutOff ran budget old.out.taken new.out.taken)) stopped cut)
+    by_cut (inr memory) is = absurd (let e : OutFailed ≡ NoMemory = sym is ∙ memory in cc)
+
     by_cause : ((r ≡ OutFailed) × (outcome ≡ Err stop.OutFailed)) ⊎ (r ≡ NoMemory)
         → ((r ≡ OutFailed) × Rose old.out.faults new.out.faults) ⊎ (r ≡ NoMemory)
     by_cause (inl (failed, stopped)) =

@@ -28,8 +28,8 @@ use Rattle.jfluid_cli.specs.Top.{IsProgram, answer_for, is_one_of, is_refused, i
 use Rattle.jfluid_cli.specs.Words.{Command, words_accepted, asks_images, budget_of, command_of, file_words, is_generated, plan_word, words_in}
 use Rattle.jfluid_cli.proofs.Runs.Carried.{carried-before_the_run, files-said, memory-refused, plan-said}
 use Rattle.jfluid_cli.proofs.Runs.BeforeTheRun.{due-words, no-fault}
-use Rattle.jfluid_cli.proofs.Reports.Fixed.{by-status, read-or, accepted-or, two-refused, not-rooted, not-named, tells, same-contents, three-refused, program-told, not-unfit, long-told, not-long, kept-input, kept-short, kept-program}
-use Rattle.jfluid_cli.proofs.Commands.OneCommand.{commanded, not-misplanned, one-command}
+use Rattle.jfluid_cli.proofs.Reports.Fixed.{admitted-command, admitted-contents, plan-told, by-status, read-or, accepted-or, two-refused, not-rooted, not-named, tells, three-refused, program-told, not-unfit, long-told, not-long, kept-input, kept-short, kept-program}
+use Rattle.jfluid_cli.proofs.Commands.OneCommand.{commanded, not-misplanned, tells-plan}
 use Rattle.jfluid_cli.proofs.Actions.Rootless.{rootless-unfit, three-rootless}
 use Rattle.jfluid_cli.proofs.Files.Spelled.{one-spelling}
 use Rattle.jfluid_cli.proofs.Runs.Complete.{without_fault_not_rose, ends_as, ending_of_same, one-program}
@@ -46,16 +46,14 @@ kept-budget c k o =
 kept-command : (c : Call) (k : Kept) (p : Program) (o : HasOrigin (given_of c) k) (a : IsAccepted (given_of c) p)
     → o.command ≡ a.admitted.command
 kept-command c k p o a =
-    one-command (given_of c) o.command a.admitted.command (tells c.old.told a.admitted.files a.admitted.telling)
-    o.accepts a.admitted.accepts
+    admitted-command (given_of c) o.command p o.accepts a.admitted
 
 kept-ends : (c : Call) (k : Kept) (p : Program) (budget : ℕ) → HasOrigin (given_of c) k → IsOnlyProgram k
     → (a : IsAccepted (given_of c) p) → ending_at k.session.value budget ≡ ending_of (world_on p a.input) budget
 kept-ends c k p budget o alone a =
     let d = a.admitted in
     let same : o.command ≡ d.command = kept-command c k p o a in
-    let one : k.classes ≡ d.contents =
-    same-contents c.old.told o.command d.command d.files k.classes d.contents same d.telling o.told_as d.told_as in
+    let one : k.classes ≡ d.contents = admitted-contents (given_of c) o.command p k.classes d same o.told_as in
     let own : List ClassFile = classes_for k.classes k.session.value.program in
     let is : IsProgram (asked_by d.command) k.classes p =
     subst (λ (xs : List (List ℕ)). IsProgram (asked_by d.command) xs p) (sym one) d.program_is in
@@ -153,7 +151,7 @@ answered-run c status heard carried =
       words_only = λ none. absurd (none-some o.accepts.words (sym none ∙ o.accepts.read));
       root_only = λ bad. absurd (not-rooted g o.command bad o.accepts);
       plan_only = λ bad without_fault. absurd
-          (not-misplanned g bad.words o.command bad.telling bad.read bad.misplanned o.accepts);
+          (not-misplanned g bad.words o.command (tells-plan g.told bad.words.plan bad.telling) bad.read bad.misplanned o.accepts);
       file_only = λ unfit without_fault. absurd (not-unfit g (kept-program g k.0 o) unfit);
       rootless = λ own three. absurd (false≢true (ap is_run (sym three) ∙ run));
       rootless_only = λ none some without_fault. absurd
@@ -193,7 +191,7 @@ plan-only c r refused bad without_fault = elim (accepted-or (given_of c) r refus
   | inl before_the_run ↦ before_the_run
   | inr late ↦ elim late [
     | inl fetch ↦ absurd (without_fault-fetch c r refused without_fault (ap status_of fetch))
-    | inr with_plan ↦ absurd (not-misplanned (given_of c) bad.words with_plan.0 bad.telling bad.read
+    | inr with_plan ↦ absurd (not-misplanned (given_of c) bad.words with_plan.0 (tells-plan c.old.told bad.words.plan bad.telling) bad.read
         bad.misplanned with_plan.1)
   ]
 ]
@@ -203,8 +201,8 @@ file-only : (c : Call) (r : Refusal) → IsRefused c r → IsUnfit (given_of c) 
 file-only c r refused unfit without_fault =
     let g = given_of c in
     by-status r ((status_of r ≡ 3) ⊎ (status_of r ≡ 9))
-    (λ two. absurd (two-refused g r unfit.command (tells c.old.told unfit.files unfit.telling) refused.cause two
-    unfit.accepts))
+    (λ two. absurd (two-refused g r unfit.command refused.cause two unfit.accepts
+    (tells-plan c.old.told unfit.accepts.words.plan (tells c.old.told unfit.files unfit.telling))))
     (λ three. inl three)
     (λ five. absurd (not-unfit g (program-told g r refused.cause (subst is_late (sym five) refl)) unfit))
     (λ six. absurd (not-unfit g (program-told g r refused.cause (subst is_late (sym six) refl)) unfit))
@@ -221,7 +219,8 @@ input-only c r always refused long without_fault input_without_fault =
     let g = given_of c in
     let d = long.admitted in
     by-status r ((status_of r ≡ 11) ⊎ (status_of r ≡ 9))
-    (λ two. absurd (two-refused g r d.command (tells c.old.told d.files d.telling) refused.cause two d.accepts))
+    (λ two. absurd (two-refused g r d.command refused.cause two d.accepts
+    (plan-told c.old.told d.accepts.words.plan d.command.generated d.telling)))
     (λ three. absurd (three-refused g r long.program refused.cause three d))
     (λ five. absurd (without_fault_not_rose c.old.input.faults c.new.input.faults input_without_fault (refused.not_taken five)))
     (λ six. let k = held c.kept (HasOrigin g) IsOnlyProgram (refused.made six) always.origin always.only in
@@ -236,7 +235,8 @@ refused-complete c r p refused a without_fault =
     let g = given_of c in
     let d = a.admitted in
     by-status r (status_of r ≡ 9)
-    (λ two. absurd (two-refused g r d.command (tells c.old.told d.files d.telling) refused.cause two d.accepts))
+    (λ two. absurd (two-refused g r d.command refused.cause two d.accepts
+    (plan-told c.old.told d.accepts.words.plan d.command.generated d.telling)))
     (λ three. absurd (three-refused g r p refused.cause three d))
     (λ five. absurd (without_fault_not_rose c.old.input.faults c.new.input.faults without_fault.input (refused.not_taken five)))
     (λ six. absurd (without_fault_not_rose c.old.out.faults c.new.out.faults without_fault.out
@@ -336,6 +336,7 @@ answered-told c after r told status said unheard carried was is named puts =
       fetches = carried.refused.fetches;
       not_taken = carried.refused.not_taken;
       stopped = carried.refused.stopped;
+      cut = carried.refused.cut;
       unshown = carried.refused.unshown;
       not_fetched = carried.refused.not_fetched;
       plan_name = carried.refused.plan_name;

@@ -13,14 +13,14 @@ use Rattle.jfluid_cli.specs.declared.kept.Kept.{Kept}
 use Rattle.jfluid_cli.specs.declared.refusal.Refusal.{Refusal}
 use Rattle.jfluid_cli.specs.declared.refusal.Refusal.TheVariants.{Clap, Words, Plan as BadPlan, NotRead, NotAdmitted, InputFailed, OutFailed, PlanNotFetched, NotFetched, NoMemory, InputTooLong}
 use Rattle.jfluid_cli.specs.Asking.{asked_by, HasBadRoot, IsPlanBy, IsPlanFor}
-use Rattle.jfluid_cli.specs.Causes.{CallInputs, Accepts, AreContentsOf, HasLongInput, IsAccepted, IsAdmitted, IsLong, IsUnfit, OfProgram, OfWords, Because}
+use Rattle.jfluid_cli.specs.Causes.{CallInputs, Accepts, AreContentsOf, HasLongInput, IsAccepted, IsAdmitted, IsLong, IsUnfit, OfProgram, OfWords, TellsFor, Because}
 use Rattle.jfluid_cli.specs.Contents.{AreContentsBy, AreToldAs}
 use Rattle.jfluid_cli.specs.Origins.{HasOrigin}
 use Rattle.jfluid_cli.specs.Refusals.{status_of}
 use Rattle.jfluid_cli.specs.Top.{HasNoProgram, IsProgram, is_one_of}
 use Rattle.jfluid_cli.specs.Words.{Command, words_accepted}
 use Rattle.jfluid_cli.proofs.Commands.Accepted.{accepted-claps, accepted-refused}
-use Rattle.jfluid_cli.proofs.Commands.OneCommand.{not-misplanned, one-command}
+use Rattle.jfluid_cli.proofs.Commands.OneCommand.{TellsPlan, not-misplanned, one-by, one-command}
 use Rattle.jfluid_cli.proofs.Files.Spelled.{none-faulty, none-spelled}
 
 -- by the status of a refusal
@@ -82,24 +82,30 @@ accepted-or g NoMemory cause = inl (inr refl)
 accepted-or g InputTooLong cause = inr (inr (cause.0.command, cause.0.accepts))
 
 -- 2 comes only where words and plan are not accepted
-pub two-refused : (g : CallInputs) (r : Refusal) (k : Command) → IsSome g.told → Because g r → status_of r ≡ 2
-    → Accepts g k → ⊥
-two-refused g (Clap text) k tells cause two accepts =
+-- the accepted words have that plan
+same-named : (g : CallInputs) (words : Read) (k : Command) (accepts : Accepts g k) → words_accepted g.words ≡ Some words
+    → TellsPlan g.told accepts.words.plan → TellsPlan g.told words.plan
+same-named g words k accepts read =
+    subst (λ (r : Read). TellsPlan g.told r.plan) (same_Some accepts.words words (sym accepts.read ∙ read))
+
+pub two-refused : (g : CallInputs) (r : Refusal) (k : Command) → Because g r → status_of r ≡ 2
+    → (accepts : Accepts g k) → TellsPlan g.told accepts.words.plan → ⊥
+two-refused g (Clap text) k cause two accepts tells =
     none-some accepts.words (sym (accepted-claps g.words cause) ∙ accepts.read)
-two-refused g Words k tells (inl refused) two accepts =
+two-refused g Words k (inl refused) two accepts tells =
     none-some accepts.words (sym (accepted-refused g.words refused) ∙ accepts.read)
-two-refused g Words k tells (inr main) two accepts =
-    not-misplanned g main.0 k tells main.1 (inr main.2) accepts
-two-refused g (BadPlan fault) k tells cause two accepts =
-    not-misplanned g cause.0 k tells cause.1 (inl (fault, cause.2)) accepts
-two-refused g (NotRead at fault) k tells cause two accepts = absurd cc
-two-refused g (NotAdmitted fault) k tells cause two accepts = absurd cc
-two-refused g InputFailed k tells cause two accepts = absurd cc
-two-refused g OutFailed k tells cause two accepts = absurd cc
-two-refused g PlanNotFetched k tells cause two accepts = absurd cc
-two-refused g (NotFetched at) k tells cause two accepts = absurd cc
-two-refused g NoMemory k tells cause two accepts = absurd cc
-two-refused g InputTooLong k tells cause two accepts = absurd cc
+two-refused g Words k (inr main) two accepts tells =
+    not-misplanned g main.0 k (same-named g main.0 k accepts main.1 tells) main.1 (inr main.2) accepts
+two-refused g (BadPlan fault) k cause two accepts tells =
+    not-misplanned g cause.0 k (same-named g cause.0 k accepts cause.1 tells) cause.1 (inl (fault, cause.2)) accepts
+two-refused g (NotRead at fault) k cause two accepts tells = absurd cc
+two-refused g (NotAdmitted fault) k cause two accepts tells = absurd cc
+two-refused g InputFailed k cause two accepts tells = absurd cc
+two-refused g OutFailed k cause two accepts tells = absurd cc
+two-refused g PlanNotFetched k cause two accepts tells = absurd cc
+two-refused g (NotFetched at) k cause two accepts tells = absurd cc
+two-refused g NoMemory k cause two accepts tells = absurd cc
+two-refused g InputTooLong k cause two accepts tells = absurd cc
 
 -- words whose root names no method have no plan
 own-bad : (told : Option Told) (root named : Option (List ℕ)) (word : List ℕ) (p : Plan) → named ≡ None
@@ -160,13 +166,40 @@ same-contents told a b files left right same telling first second =
     (subst (λ (x : Command). AreContentsOf told x left) same first))
     second
 
+-- ---- what is admitted
+
+-- the file of its plan is told, and those of its classes
+pub plan-told : (told : Option Told) (named : Option (List ℕ)) (o : Option Generation) → TellsFor told named o → TellsPlan told named
+plan-told told None o tells = tt
+plan-told told (Some name) o tells = tells
+
+classes-told : (told : Option Told) (named : Option (List ℕ)) (words xs ys : List (List ℕ)) → TellsFor told named None
+    → AreToldAs told words xs → AreToldAs told words ys → xs ≡ ys
+classes-told (Some files) named words xs ys tells left right = same-told files words xs ys left right
+classes-told None None words xs ys tells left right = absurd (let e : false ≡ true = tells in cc)
+classes-told None (Some name) words xs ys tells left right = absurd (let e : false ≡ true = tells in cc)
+
+contents-told : (told : Option Told) (named : Option (List ℕ)) (o : Option Generation) (words xs ys : List (List ℕ)) → TellsFor told named o
+    → AreContentsBy told o words xs → AreContentsBy told o words ys → xs ≡ ys
+contents-told told named None words xs ys tells left right = classes-told told named words xs ys tells left right
+contents-told told named (Some g) words xs ys tells left right = left ∙ sym right
+
+pub admitted-command : (g : CallInputs) (k : Command) (p : Program) → Accepts g k → (a : IsAdmitted g p) → k ≡ a.command
+admitted-command g k p accepts a =
+    one-by g k a.command accepts a.accepts (plan-told g.told a.accepts.words.plan a.command.generated a.telling)
+
+pub admitted-contents : (g : CallInputs) (k : Command) (p : Program) (contents : List (List ℕ)) (a : IsAdmitted g p)
+    → k ≡ a.command → AreContentsOf g.told k contents → contents ≡ a.contents
+admitted-contents g k p contents a same told_as =
+    contents-told g.told a.accepts.words.plan a.command.generated a.command.files contents a.contents a.telling
+    (subst (λ (x : Command). AreContentsOf g.told x contents) same told_as) a.told_as
+
 -- contents of no program are not admitted
 none-admitted : (g : CallInputs) (k : Command) (contents : List (List ℕ)) (p : Program) → Accepts g k
     → AreContentsOf g.told k contents → HasNoProgram (asked_by k) contents → IsAdmitted g p → ⊥
 none-admitted g k contents p accepts told_as none a =
-    let same : k ≡ a.command = one-command g k a.command (tells g.told a.files a.telling) accepts a.accepts in
-    let one : contents ≡ a.contents =
-    same-contents g.told k a.command a.files contents a.contents same a.telling told_as a.told_as in
+    let same : k ≡ a.command = admitted-command g k p accepts a in
+    let one : contents ≡ a.contents = admitted-contents g k p contents a same told_as in
     none p
     (subst (λ (xs : List (List ℕ)). IsProgram (asked_by k) xs p) (sym one)
     (subst (λ (x : Command). IsProgram (asked_by x) a.contents p) (sym same) a.program_is))

@@ -1,6 +1,6 @@
 -- What is proved of a call on devices, where they are seen otherwise.
 use Rattle.std.proofs.Common.{◌≡◌, ℕ, Bool, List, Option, Some, None, subst}
-use Rattle.std.specs.Prelude.{◌⊎◌, Result, MatchResult, IsSomeAnd}
+use Rattle.std.specs.Prelude.{◌⊎◌, Result, MatchResult, IfSome, IsSomeAnd}
 use Rattle.std.proofs.lemmas.Result.{MatchResult-weaker}
 use Rattle.jf_bytes.specs.declared.error.NoMemory.{NoMemory as OutOfMemory}
 use Rattle.byte_streams.specs.Streams.{Rose}
@@ -8,7 +8,7 @@ use Rattle.jfluid_cli.specs.declared.kept.Kept.{Kept}
 use Rattle.jfluid_cli.specs.declared.refusal.Refusal.{Refusal}
 use Rattle.jfluid_cli.specs.declared.refusal.Refusal.TheVariants.{OutFailed, NoMemory}
 use Rattle.jfluid_cli.specs.Calls.{IsAnswered, IsRun, IsShown, call_of}
-use Rattle.jfluid_cli.specs.Runs.{IsCarriedOut}
+use Rattle.jfluid_cli.specs.Runs.{IsCarriedOut, IsCutOff}
 use Rattle.jfluid_cli.specs.Sinks.{DevicesView, SinkView, IsUntold}
 use Rattle.jfluid_cli.specs.Stages.{IsCarried, IsStopped}
 
@@ -38,11 +38,11 @@ answered-of words given old new kept status =
 
 pub ran-from : (old before new : DevicesView) (r : Result ℕ Refusal) (k : Kept)
     (summary asked : Bool) (budget : ℕ) → old ≡ before
-    → MatchResult r (λ status. IsRun summary asked budget old new status k) (IsStopped old new)
-    → MatchResult r (λ status. IsRun summary asked budget before new status k) (IsStopped before new)
+    → MatchResult r (λ status. IsRun summary asked budget old new status k) (IsStopped (Some k) budget old new)
+    → MatchResult r (λ status. IsRun summary asked budget before new status k) (IsStopped (Some k) budget before new)
 ran-from old before new r k summary asked budget =
     subst (λ (d : DevicesView). MatchResult r
-    (λ status. IsRun summary asked budget d new status k) (IsStopped d new))
+    (λ status. IsRun summary asked budget d new status k) (IsStopped (Some k) budget d new))
 
 -- ---- a run is told of by the sinks alone
 
@@ -74,15 +74,16 @@ module _ (old before new after : DevicesView) (was : HaveSameSinks before old) (
   some-sinks summary asked budget status None none = none
   some-sinks summary asked budget status (Some k) ran = run-sinks summary asked budget status k ran
 
-  stop-sinks : (r : Refusal) → IsStopped before after r → IsStopped old new r
-  stop-sinks r stopped = record {
+  stop-sinks : (kept : Option Kept) (budget : ℕ) (r : Refusal) → IsStopped kept budget before after r → IsStopped kept budget old new r
+  stop-sinks kept budget r stopped = record {
     why = of-sinks (λ s t. ((r ≡ OutFailed) × Rose s.faults t.faults) ⊎ (r ≡ NoMemory)) _ _ _ _ was.out is.out stopped.why;
+    cut = of-sinks (λ s t. r ≡ OutFailed → IfSome kept (λ k. IsCutOff k.session.value budget s.taken t.taken)) _ _ _ _ was.out is.out stopped.cut;
     untold = of-sinks IsUntold _ _ _ _ was.report is.report stopped.untold;
     unshown = of-sinks (λ s t. r ≡ OutFailed → IsUntold s t) _ _ _ _ was.images is.images stopped.unshown;
   }
 
   pub ran-on : (summary asked : Bool) (budget : ℕ) (kept : Option Kept) (r : Result ℕ Refusal)
-      → MatchResult r (λ status. IsSomeAnd kept (IsRun summary asked budget before after status)) (IsStopped before after)
-      → MatchResult r (λ status. IsSomeAnd kept (IsRun summary asked budget old new status)) (IsStopped old new)
+      → MatchResult r (λ status. IsSomeAnd kept (IsRun summary asked budget before after status)) (IsStopped kept budget before after)
+      → MatchResult r (λ status. IsSomeAnd kept (IsRun summary asked budget old new status)) (IsStopped kept budget old new)
   ran-on summary asked budget kept r ran =
-      MatchResult-weaker r ran (λ status. some-sinks summary asked budget status kept) stop-sinks
+      MatchResult-weaker r ran (λ status. some-sinks summary asked budget status kept) (stop-sinks kept budget)

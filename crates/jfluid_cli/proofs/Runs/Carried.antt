@@ -22,7 +22,7 @@ use Rattle.jfluid_cli.specs.Contents.{SpellAlone, classes_for}
 use Rattle.jfluid_cli.specs.Stages.{IsBeforeTheRun, IsInputRefusal, IsPrepared, HasFetchCause, is_before_the_run, IsStopped, IsSameRun, IsCarried}
 use Rattle.jfluid_cli.specs.Origins.{HasOrigin, IsOnlyProgram}
 use Rattle.jfluid_cli.specs.Refusals.{status_of}
-use Rattle.jfluid_cli.specs.Runs.{PutsAtMost, RunsProgram, SameProgram, IsCarriedOut, output_at, world_on}
+use Rattle.jfluid_cli.specs.Runs.{PutsAtMost, RunsProgram, SameProgram, IsCarriedOut, IsCutOff, output_at, world_on}
 use Rattle.jfluid_cli.specs.Top.{IsProgram}
 use Rattle.jfluid_cli.specs.Words.{Command, words_accepted, asks_images, budget_of, command_of, file_words, is_generated, plan_word}
 use Rattle.command_line.proofs.Rests.{rest-of-long, rest-untaken, rest-within}
@@ -85,6 +85,7 @@ refused-before_the_run c r none input before_the_run fetch = record {
   fetches = fetches-of (plan_word (words_of c)) (file_words (words_of c)) c.old.files c.new.files r fetch;
   not_taken = λ five. absurd (other-before_the_run (status_of r) 5 refl before_the_run.before_the_run five);
   stopped = λ six. absurd (other-before_the_run (status_of r) 6 refl before_the_run.before_the_run six);
+  cut = λ six. absurd (other-before_the_run (status_of r) 6 refl before_the_run.before_the_run six);
   unshown = λ six. absurd (other-before_the_run (status_of r) 6 refl before_the_run.before_the_run six);
   not_fetched = fetch.failed;
   plan_name = fetch.plan_is;
@@ -140,6 +141,7 @@ memory-refused c fetches = record {
   fetches = fetches;
   not_taken = λ five. absurd cc;
   stopped = λ six. absurd cc;
+  cut = λ six. absurd cc;
   unshown = λ six. absurd cc;
   not_fetched = λ seven. absurd cc;
   plan_name = λ is. absurd (let e : ◌≡◌ {A = ℕ} 9 7 = ap status_of is in cc);
@@ -196,6 +198,7 @@ refused-input c r none without_fault of (inl (failed, rose, takes)) = subst (IsR
   fetches = inl without_fault;
   not_taken = λ _. rose;
   stopped = λ six. absurd cc;
+  cut = λ six. absurd cc;
   unshown = λ six. absurd cc;
   not_fetched = λ seven. absurd cc;
   plan_name = λ is. absurd (let e : ◌≡◌ {A = ℕ} 5 7 = ap status_of is in cc);
@@ -213,6 +216,7 @@ refused-input c r none without_fault of (inr (inl (failed, long, more, same))) =
   fetches = inl without_fault;
   not_taken = λ five. absurd cc;
   stopped = λ six. absurd cc;
+  cut = λ six. absurd cc;
   unshown = λ six. absurd cc;
   not_fetched = λ seven. absurd cc;
   plan_name = λ is. absurd (let e : ◌≡◌ {A = ℕ} 11 7 = ap status_of is in cc);
@@ -347,11 +351,16 @@ made-run c budget made k status is same ran =
       shown = ran.shown;
     }
 
+-- what was put up to the words' budget
+abbrev IsCutBy : Call → Kept → Type 0
+IsCutBy c k = IsCutOff k.session.value (budget_of (words_of c) k.plan) c.old.out.taken c.new.out.taken
+
 -- a run that stopped
-stopped-refused : (c : Call) (k : Kept) (r : Refusal) → OfProgram (given_of c) → c.kept ≡ Some k
+stopped-refused : (c : Call) (k : Kept) (budget : ℕ) (r : Refusal) → OfProgram (given_of c) → c.kept ≡ Some k
+    → budget ≡ budget_of (words_of c) k.plan
     → c.new.files ≡ c.old.files → c.new.input.faults ≡ c.old.input.faults
-    → IsStopped c.old c.new r → IsRefused c r
-stopped-refused c k r of kept without_fault input_without_fault stopped = elim stopped.why [
+    → IsStopped c.kept budget c.old c.new r → IsRefused c r
+stopped-refused c k budget r of kept within without_fault input_without_fault stopped = elim stopped.why [
   | inl (failed, rose) ↦ subst (IsRefused c) (sym failed) (record {
     cause = of;
     refused = λ before_the_run. absurd (false≢true before_the_run);
@@ -362,6 +371,10 @@ stopped-refused c k r of kept without_fault input_without_fault stopped = elim s
     fetches = inl without_fault;
     not_taken = λ five. absurd cc;
     stopped = λ _. rose;
+    cut = λ _. subst (λ (o : Option Kept). IfSome o (IsCutBy c)) (sym kept)
+        (subst (λ (n : ℕ). IsCutOff k.session.value n c.old.out.taken c.new.out.taken) within
+        (subst (λ (o : Option Kept). IfSome o (λ x. IsCutOff x.session.value budget c.old.out.taken c.new.out.taken)) kept
+        (stopped.cut failed)));
     unshown = λ _. stopped.unshown failed;
     not_fetched = λ seven. absurd cc;
     plan_name = λ is. absurd (let e : ◌≡◌ {A = ℕ} 6 7 = ap status_of is in cc);
@@ -382,7 +395,7 @@ kept-images o k asked old new is =
 run-asked : (c : Call) (budget : ℕ) (made : Kept)
     (r : Result ℕ Refusal) → IsMade c budget made → IsSomeAnd c.kept (IsSameRun made)
     → MatchResult r (λ status. IsSomeAnd c.kept (IsRun (is_generated (words_of c)) (asks_images (words_of c)) budget c.old c.new status))
-    (IsStopped c.old c.new)
+    (IsStopped c.kept budget c.old c.new)
     → PutsAtMost made.session.value budget c.old.out.taken c.new.out.taken
     → IsSomeAnd c.kept (λ x. PutsImages (asks_images (words_of c)) x.session.value c.old c.new)
     → (asks_images (words_of c) ≡ false → IsUntold c.old.images c.new.images)
@@ -411,9 +424,9 @@ run-asked c budget made (Err r) is same stopped front images unasked without_fau
     record {
       always = made-true c budget made k.0 is k.1 k.2 front (kept-images c.kept k.0 asked c.old c.new k.1 images) unasked;
       ran = tt;
-      refused = stopped-refused c k.0 r
-          (of-program (given_of c) made.plan budget made.classes is.program is.prepared) k.1 without_fault input_without_fault
-          stopped;
+      refused = stopped-refused c k.0 budget r
+          (of-program (given_of c) made.plan budget made.classes is.program is.prepared) k.1 (budget-is c budget made k.0 is k.2)
+          without_fault input_without_fault stopped;
       untold = stopped.untold;
     }
 
@@ -429,7 +442,7 @@ pub carried-run : (c : Call) (summary : Bool) (budget : ℕ) (made : Kept) (r : 
     → words_accepted (words_of c) ≡ Some words → summary ≡ is_some words.generated
     → IsMade c budget made → IsSomeAnd c.kept (IsSameRun made)
     → MatchResult r (λ status. IsSomeAnd c.kept (IsRun summary words.images budget c.old c.new status))
-    (IsStopped c.old c.new)
+    (IsStopped c.kept budget c.old c.new)
     → PutsAtMost made.session.value budget c.old.out.taken c.new.out.taken
     → IsSomeAnd c.kept (λ x. PutsImages words.images x.session.value c.old c.new)
     → (words.images ≡ false → IsUntold c.old.images c.new.images)
@@ -438,8 +451,8 @@ carried-run c summary budget made r words read sums is same ran front images una
     let said : words.images ≡ asks_images (words_of c) = sym (images-said (words_of c) words read) in
     let sums_said : summary ≡ is_generated (words_of c) = sums ∙ sym (generation-said (words_of c) words read) in
     run-asked c budget made r is same
-    (subst (λ (s : Bool). MatchResult r (λ status. IsSomeAnd c.kept (IsRun s (asks_images (words_of c)) budget c.old c.new status)) (IsStopped c.old c.new)) sums_said
-    (subst (λ (asked : Bool). MatchResult r (λ status. IsSomeAnd c.kept (IsRun summary asked budget c.old c.new status)) (IsStopped c.old c.new)) said ran))
+    (subst (λ (s : Bool). MatchResult r (λ status. IsSomeAnd c.kept (IsRun s (asks_images (words_of c)) budget c.old c.new status)) (IsStopped c.kept budget c.old c.new)) sums_said
+    (subst (λ (asked : Bool). MatchResult r (λ status. IsSomeAnd c.kept (IsRun summary asked budget c.old c.new status)) (IsStopped c.kept budget c.old c.new)) said ran))
     front
     (subst (λ (asked : Bool). IsSomeAnd c.kept (λ x. PutsImages asked x.session.value c.old c.new)) said images)
     (subst (λ (asked : Bool). asked ≡ false → IsUntold c.old.images c.new.images) said unasked)

@@ -15,7 +15,7 @@ returns-clause-run g c =
     c.run_all-outcome.new.session k
     c.answer-answered.ensures.carried_out c.answer-answered.ensures.gathered c.answer-answered.ensures.shown
     c.answer-answered.ensures.stopped c.answer-answered.ensures.unshown c.run_all-outcome.ensures.carried_out
-    c.run_all-outcome.ensures.cause)
+    c.run_all-outcome.ensures.cause c.answer-answered.ensures.stays c.run_all-outcome.ensures.cut)
 
 pub returns-clause-prefix : goal.returns-clause-prefix
 returns-clause-prefix g c =
