@@ -16,7 +16,8 @@ FOLDER = os.path.dirname(os.path.abspath(__file__))
 TOP = os.path.dirname(os.path.dirname(FOLDER))
 PAGE = "docs/BELIEVE.md"
 FOR_PROOFS = "for_proofs.txt"
-HEADLINE = "jfluid"
+# What the program jfluid calls: the top call `jfluid`, where nothing of what was run is kept.
+HEADLINE = "exit_status"
 
 HEAD = """# What must be believed
 
