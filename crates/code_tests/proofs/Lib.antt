@@ -3,7 +3,6 @@ mod WorkedFrameTables
 mod WorkedFrames
 mod WorkedHeaps
 mod WorkedLayouts
-mod WorkedNatives
 mod WorkedRecords
 mod WorkedVersions
 mod Lists

@@ -12,3 +12,5 @@ mod of_code_model;
 mod of_event_buffer;
 #[cfg(test)]
 mod of_heap_objects;
+#[cfg(test)]
+mod of_native_ops;
