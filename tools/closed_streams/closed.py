@@ -1,7 +1,7 @@
 """Runs the built programs with each choice of the three standard streams closed at the start, and looks at what they do.
 
 closed.py FOLDER   has the built programs by their names (the file that `rt run` leaves in a crate's out/): jfluid, class_copy,
-class_image, map_rows, worked_rows, machine_rows, revelation_rows and reports_on_output, those of them that are there.
+class_image, map_rows, worked_rows and played_rows, those of them that are there.
 
 Each runs with its crate's words in a copy of its crate's data/, jfluid with P1 under the root P1.f, with and without images,
 so 8 times each. A stream that was closed must be one of which each take or put fails, and no file's:
@@ -22,7 +22,7 @@ import tempfile
 
 CRATES = os.path.join(os.path.dirname(os.path.realpath(__file__)), "..", "..", "crates")
 P1 = ["--main", "P1", "--root", "P1.f(I)I"]
-OTHERS = ("class_copy", "class_image", "map_rows", "worked_rows", "machine_rows", "revelation_rows", "reports_on_output")
+OTHERS = ("class_copy", "class_image", "map_rows", "worked_rows", "played_rows")
 
 
 def words_of(crate):
