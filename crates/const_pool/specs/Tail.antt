@@ -23,6 +23,11 @@ throwable_index count = count + 16
 abbrev pub frames_index : ℕ → ℕ
 frames_index count = count + 17
 
+-- a probe behind so many entries and `at` of the tail: its name, that with the probes' descriptor, and the method of the
+-- probes' class
+abbrev pub probe_entries : ℕ → List ℕ → ℕ → List Const
+probe_entries count name at = Utf8 name ∷ NameType (count + at) (count + 2) ∷ Method (count + 1) (count + (at + 1)) ∷ []
+
 -- the eighteen entries behind so many
 abbrev pub tail_entries : ℕ → List Const
 tail_entries count =

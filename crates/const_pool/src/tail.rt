@@ -1,9 +1,9 @@
 //! The pool tail: what a rewritten class has behind the entries of its own.
 
-ghost use Rattle.std.specs.Prelude.{◌≡◌, ◌↔◌, ◌+◌, ◌<◌, ◌≤◌, length, Err, IfOk};
+ghost use Rattle.std.specs.Prelude.{◌≡◌, ◌↔◌, ◌+◌, ◌<◌, ◌≤◌, ◌++◌, ◌∷◌, [], length, Err, IfOk, OnOk};
 ghost use Rattle.const_pool.specs.declared.pool.Const.TheVariants.{Utf8};
 ghost use Rattle.const_pool.specs.declared.tail.TailError.TheVariants.{Full};
-ghost use Rattle.const_pool.specs.Tail.{tail_entries, with_tail, root_index, enter_index, leave_index, unwind_index, throwable_index, frames_index};
+ghost use Rattle.const_pool.specs.Tail.{probe_entries, tail_entries, with_tail, root_index, enter_index, leave_index, unwind_index, throwable_index, frames_index};
 
 use crate::pool::{Const, Pool};
 use jf_bytes::{NoMemory, Text16};
@@ -106,32 +106,50 @@ fn utf8(alloc: Global, text: &str) -> Result<Const, NoMemory>
     Ok(Const::Utf8(Text16::new(units)))
 }
 
+/// Adds the Utf8 entry of an ASCII text.
+fn push_text(alloc: Global, tail: &mut Vec<Const>, text: &str) -> Result<(), NoMemory>
+    ensures { OnOk result (tail.new.items ≡ tail.old.items ++ Utf8 text.now ∷ []) }
+{
+    tail.push(utf8(alloc, text)?)?;
+    Ok(())
+}
+
+/// Adds the entries of a probe, the first of which is the tail's entry `at`: its name, that with the descriptor of all
+/// probes, and the method. The tail begins with the name of the probes' class, the class and that descriptor.
+fn push_probe(
+    alloc: Global,
+    tail: &mut Vec<Const>,
+    count: u16,
+    name: &str,
+    at: u16,
+) -> Result<(), NoMemory>
+    requires fits { count + 18 ≤ 65535 }
+    requires within { at < 17 }
+    ensures { OnOk result (tail.new.items ≡ tail.old.items ++ probe_entries count name.now at) }
+{
+    push_text(alloc, tail, name)?;
+    tail.push(Const::NameType(count + at, count + 2))?;
+    tail.push(Const::Method(count + 1, count + (at + 1)))?;
+    Ok(())
+}
+
 /// The tail behind so many entries.
 fn tail_of(alloc: Global, count: u16) -> Result<Vec<Const>, NoMemory>
     requires { count + 18 ≤ 65535 }
     ensures { IfOk result (λ tail. tail.items ≡ tail_entries count) }
 {
-    let entries = [
-        utf8(alloc, "jfluid/Probe")?,
-        Const::Class(count),
-        utf8(alloc, "(I)V")?,
-        utf8(alloc, "root")?,
-        Const::NameType(count + 3, count + 2),
-        Const::Method(count + 1, count + 4),
-        utf8(alloc, "enter")?,
-        Const::NameType(count + 6, count + 2),
-        Const::Method(count + 1, count + 7),
-        utf8(alloc, "leave")?,
-        Const::NameType(count + 9, count + 2),
-        Const::Method(count + 1, count + 10),
-        utf8(alloc, "unwind")?,
-        Const::NameType(count + 12, count + 2),
-        Const::Method(count + 1, count + 13),
-        utf8(alloc, "java/lang/Throwable")?,
-        Const::Class(count + 15),
-        utf8(alloc, "StackMapTable")?,
-    ];
-    Ok(Vec::from_array(alloc, entries)?)
+    let mut tail = Vec::with_capacity(alloc, TAIL_ENTRIES)?;
+    push_text(alloc, &mut tail, "jfluid/Probe")?;
+    tail.push(Const::Class(count))?;
+    push_text(alloc, &mut tail, "(I)V")?;
+    push_probe(alloc, &mut tail, count, "root", 3)?;
+    push_probe(alloc, &mut tail, count, "enter", 6)?;
+    push_probe(alloc, &mut tail, count, "leave", 9)?;
+    push_probe(alloc, &mut tail, count, "unwind", 12)?;
+    push_text(alloc, &mut tail, "java/lang/Throwable")?;
+    tail.push(Const::Class(count + 15))?;
+    push_text(alloc, &mut tail, "StackMapTable")?;
+    Ok(tail)
 }
 
 /// The entries with their tail.
